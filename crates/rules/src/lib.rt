@@ -1,5 +1,5 @@
 //! The words that every layer shares: literals, assignments, rules, and what is wrong with a text or a table.
-mod fault;
+pub mod fault;
 
 pub use fault::Fault;
 pub use fault::Reason;

@@ -1,0 +1,5 @@
+pub mod Lines
+pub mod Spelling
+pub mod Numerals
+pub mod Tokens
+pub mod Reading

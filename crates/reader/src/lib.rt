@@ -1,0 +1,4 @@
+//! Rule files: a text is read whole, into two tables, or refused with a reason and a place.
+pub mod counts;
+pub mod cursor;
+mod numerals;
