@@ -3,6 +3,7 @@ use mathlib.Core.Bool.{Bool, true, cond, _||_}
 use mathlib.Core.List.{List, [], _∷_}
 use Prim.Native.Nat.{ℕ, suc}
 use lib.Dec.{eqb}
+use lib.ListN.{drop}
 use Rattle.reader.specs.Lines.{blank}
 use Rattle.reader.specs.declared.cursor.Mode.{Mode}
 use Rattle.reader.specs.declared.cursor.Mode.the-variants.{Start, Within, Comment}
@@ -10,6 +11,9 @@ use Rattle.reader.specs.declared.cursor.Mode.the-variants.{Start, Within, Comm
 pub record Token : Type 0 where
   pub place : ℕ
   pub bytes : List ℕ
+
+abbrev pub token : ℕ → List ℕ → Token
+token at w = record { place = at; bytes = w }
 
 -- whether a byte is passed over, where no word has begun
 abbrev pub skips : Mode → ℕ → Bool
@@ -39,3 +43,7 @@ opens at b (c ∷ bs) ts = cond (blank c) (record { place = at; bytes = b ∷ []
 unfoldable pub tokens : ℕ → Mode → List ℕ → List Token
 tokens at m [] = []
 tokens at m (b ∷ bs) = cond (skips m b) (tokens (suc at) (passed m b) bs) (opens at b bs (tokens (suc at) Within bs))
+
+-- the words that a cursor at the place at still meets
+abbrev pub ahead : List ℕ → ℕ → Mode → List Token
+ahead text at m = tokens at m (drop at text)

@@ -1,10 +1,7 @@
-// A cursor over the lent text, from word to word.
+// Where a cursor over a text stands, and which bytes it passes over.
 ghost use mathlib.Core.Path.{_≡_};
-ghost use mathlib.Core.Bool.{Bool, false};
-ghost use Prim.Native.Nat.{ℕ, _+_, _≤_, _<_};
-ghost use lib.ListN.{length, getD, drop};
 ghost use Rattle.reader.specs.Lines.{blank};
-ghost use Rattle.reader.specs.Tokens.{skips, passed, tokens};
+ghost use Rattle.reader.specs.Tokens.{skips, passed};
 
 // Where a cursor stands that is in no word: at a line's start, later in a line, or in a comment.
 #[derive(Clone, Copy)]
@@ -16,7 +13,7 @@ pub enum Mode {
 
 impl Mode {
     // Whether a byte is passed over.
-    fn skips(self, b: u8) -> bool
+    pub fn skips(self, b: u8) -> bool
         ensures { λ r. ⌜ r ≡ skips self b ⌝ }
     {
         match self {
@@ -26,7 +23,7 @@ impl Mode {
         }
     }
 
-    fn passed(self, b: u8) -> Mode
+    pub fn passed(self, b: u8) -> Mode
         ensures { λ r. ⌜ r ≡ passed self b ⌝ }
     {
         if b == b'\n' {

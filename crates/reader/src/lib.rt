@@ -2,3 +2,4 @@
 pub mod counts;
 pub mod cursor;
 mod numerals;
+mod words;

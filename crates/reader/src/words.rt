@@ -1,0 +1,88 @@
+// The lent text, read from word to word and from line to line.
+ghost use mathlib.Core.Path.{_≡_};
+ghost use mathlib.Core.Bool.{false};
+ghost use mathlib.Core.List.{[], _∷_};
+ghost use Prim.Native.Nat.{ℕ, _+_, _-_, _≤_, _<_};
+ghost use lib.ListN.{length, getD, drop, take};
+ghost use Rattle.std.specs.Options.{Cases};
+ghost use Rattle.std.specs.shelf.Lists.{leading};
+ghost use Rattle.reader.specs.Lines.{dark};
+ghost use Rattle.reader.specs.Tokens.{skips, token, ahead};
+use crate::cursor::Mode;
+use crate::cursor::is_blank;
+
+// A word of the text, and where it begins.
+#[derive(Clone, Copy)]
+pub struct Word<'a> {
+    pub bytes: &'a [u8],
+    pub place: usize,
+}
+
+// The text, and the place up to which it is read.
+#[derive(Drop)]
+pub struct Reader<'a> {
+    text: &'a [u8],
+    at: usize,
+    mode: Mode,
+    ghost inside: { at ≤ length (text .now) },
+}
+
+// Where the word ends that goes on at the place at.
+fn word_end(text: &[u8], at: usize) -> usize
+    requires { ⌜ at ≤ length (now text) ⌝ }
+    ensures end { λ r. ⌜ r ≡ at + leading dark (drop at (now (text .entry))) ⌝ }
+    ensures within { λ r. ⌜ r ≤ length (now (text .entry)) ⌝ }
+{
+    let mut end = at;
+    while end < text.len() && !is_blank(text[end]) {
+        end += 1;
+    }
+    end
+}
+
+impl<'a> Reader<'a> {
+    pub fn new(text: &'a [u8], at: usize) -> Reader<'a>
+        requires { ⌜ at ≤ length (now text) ⌝ }
+        ensures text { λ r. ⌜ r .text ≡ text .entry ⌝ }
+        ensures at { λ r. ⌜ r .at ≡ at ⌝ }
+        ensures mode { λ r. ⌜ r .mode ≡ Mode.Start ⌝ }
+    {
+        Reader { text, at, mode: Mode::Start }
+    }
+
+    // Passes over blanks and comments up to the next word.
+    fn skip_gap(&mut self)
+        ensures text { λ _. ⌜ now (self .exit) .text ≡ now (self .entry) .text ⌝ }
+        ensures on { λ _. ⌜ now (self .entry) .at ≤ now (self .exit) .at ⌝ }
+        ensures same { λ _. ⌜ ahead (now (self .exit) .text .now) (now (self .exit) .at) (now (self .exit) .mode) ≡ ahead (now (self .entry) .text .now) (now (self .entry) .at) (now (self .entry) .mode) ⌝ }
+        ensures stops { λ _. ⌜ (now (self .exit) .at < length (now (self .exit) .text .now) → skips (now (self .exit) .mode) (getD (now (self .exit) .text .now) (now (self .exit) .at) 0) ≡ false) ⌝ }
+    {
+        while self.at < self.text.len() {
+            let b = self.text[self.at];
+            if !self.mode.skips(b) {
+                return;
+            }
+            self.mode = self.mode.passed(b);
+            self.at += 1;
+        }
+    }
+
+    // The next word, or none at the end of the text.
+    pub fn next_word(&mut self) -> Option<Word<'a>>
+        ensures text { λ _. ⌜ now (self .exit) .text ≡ now (self .entry) .text ⌝ }
+        ensures word { λ r. ⌜ Cases r (ahead (now (self .entry) .text .now) (now (self .entry) .at) (now (self .entry) .mode) ≡ []) (λ w. (ahead (now (self .entry) .text .now) (now (self .entry) .at) (now (self .entry) .mode) ≡ token (w .place) (w .bytes .now) ∷ ahead (now (self .exit) .text .now) (now (self .exit) .at) (now (self .exit) .mode)) × (now (self .entry) .at < now (self .exit) .at)) ⌝ }
+    {
+        self.skip_gap();
+        let start = self.at;
+        if start == self.text.len() {
+            return None;
+        }
+        let end = word_end(self.text, start);
+        self.at = end;
+        self.mode = Mode::Within;
+        Some(Word {
+            bytes: &self.text[start..end],
+            place: start,
+        })
+    }
+}
