@@ -5,3 +5,10 @@ pub struct Counts {
     pub clauses: usize,
     pub odds: usize,
 }
+
+// One rule as it was read: its kind, and how many literals it has.
+#[derive(Clone, Copy)]
+pub struct Shape {
+    pub odd: bool,
+    pub literals: usize,
+}

@@ -21,9 +21,9 @@ pub struct Word<'a> {
 // The text, and the place up to which it is read.
 #[derive(Drop)]
 pub struct Reader<'a> {
-    text: &'a [u8],
-    at: usize,
-    mode: Mode,
+    pub(crate) text: &'a [u8],
+    pub(crate) at: usize,
+    pub(crate) mode: Mode,
     ghost inside: { at ≤ length (text .now) },
 }
 
@@ -70,7 +70,7 @@ impl<'a> Reader<'a> {
     // The next word, or none at the end of the text.
     pub fn next_word(&mut self) -> Option<Word<'a>>
         ensures text { λ _. ⌜ now (self .exit) .text ≡ now (self .entry) .text ⌝ }
-        ensures word { λ r. ⌜ Cases r (ahead (now (self .entry) .text .now) (now (self .entry) .at) (now (self .entry) .mode) ≡ []) (λ w. (ahead (now (self .entry) .text .now) (now (self .entry) .at) (now (self .entry) .mode) ≡ token (w .place) (w .bytes .now) ∷ ahead (now (self .exit) .text .now) (now (self .exit) .at) (now (self .exit) .mode)) × (now (self .entry) .at < now (self .exit) .at)) ⌝ }
+        ensures word { λ r. ⌜ Cases r (ahead (now (self .entry) .text .now) (now (self .entry) .at) (now (self .entry) .mode) ≡ []) (λ w. (ahead (now (self .entry) .text .now) (now (self .entry) .at) (now (self .entry) .mode) ≡ token (w .place) (w .bytes .now) ∷ ahead (now (self .entry) .text .now) (now (self .exit) .at) (now (self .exit) .mode)) × (now (self .entry) .at < now (self .exit) .at)) ⌝ }
     {
         self.skip_gap();
         let start = self.at;

@@ -1,0 +1,26 @@
+-- What the parts of the reader do to the words that are ahead: ts before, ts′ after.
+use mathlib.Core.Path.{_≡_}
+use mathlib.Core.Bool.{Bool}
+use mathlib.Core.List.{List, [], _++_}
+use Prim.Native.Nat.{ℕ}
+use lib.IntN.{ℤ}
+use lib.ListN.{length}
+use Rattle.std.specs.declared.option.Option.{Option}
+use Rattle.std.specs.declared.option.Option.the-variants.{Some, None}
+use Rattle.std.specs.declared.result.Result.{Result}
+use Rattle.std.specs.declared.result.Result.the-variants.{Ok, Err}
+use Rattle.rules.specs.declared.fault.Fault.{Fault}
+use Rattle.reader.specs.declared.counts.Shape.{Shape}
+use Rattle.reader.specs.Tokens.{Token}
+use Rattle.reader.specs.Reading.{scan, between, inside, rule-of, with-rule}
+
+-- after the literals ls of a rule: as many more as counted, and the rule ends; or the fault that the whole text has
+abbrev pub Literals-read : ℕ → ℕ → List ℤ → List Token → List Token → Result ℕ Fault → Type 0
+Literals-read n end ls ts ts′ (Ok count) = (more : List ℤ) × (length more ≡ count) × ((k : Bool) → scan n end (inside k ls) ts ≡ with-rule (rule-of k (ls ++ more)) (scan n end between ts′))
+Literals-read n end ls ts ts′ (Err f) = (k : Bool) → scan n end (inside k ls) ts ≡ Err f
+
+-- between two rules: one rule of that shape, or none is left, or the fault
+abbrev pub Rule-read : ℕ → ℕ → List Token → List Token → Result (Option Shape) Fault → Type 0
+Rule-read n end ts ts′ (Ok (Some s)) = (ls : List ℤ) × (length ls ≡ s .literals) × (scan n end between ts ≡ with-rule (rule-of (s .odd) ls) (scan n end between ts′))
+Rule-read n end ts ts′ (Ok None) = scan n end between ts ≡ Ok []
+Rule-read n end ts ts′ (Err f) = scan n end between ts ≡ Err f
