@@ -3,3 +3,8 @@ pub mod Walks
 pub mod Stamps
 pub mod Saying
 pub mod Rounds
+pub mod Numbers
+pub mod Texts
+pub mod Headers
+pub mod Scans
+pub mod Spelled

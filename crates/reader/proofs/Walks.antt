@@ -15,7 +15,9 @@ use Rattle.std.proofs.shelf.Tests.{cond-true, cond-false, or-parts, both-ways, 
 use mathlib.Core.Logic.{⊎-elim}
 use Rattle.reader.specs.declared.cursor.Mode.{Mode}
 use Rattle.reader.specs.declared.cursor.Mode.the-variants.{Start, Within, Comment}
-use Rattle.reader.specs.Lines.{blank, dark}
+use Rattle.reader.specs.declared.cursor.Until.the-variants.{Blank}
+use Rattle.reader.specs.Lines.{blank}
+use Rattle.reader.specs.Runs.{goes}
 use Rattle.reader.specs.Tokens.{Token, skips, passed, extends, opens, tokens, ahead}
 
 -- from the place start in the mode m the cursor has come to at, and no word lay between
@@ -41,7 +43,7 @@ pub nothing-ahead : (text : List ℕ) (at : ℕ) (m : Mode) → length text ≤ 
 unfolding tokens
 nothing-ahead text at m h = at-drop-all (tokens at m) text at h
 
-dark-byte : (m : Mode) (b : ℕ) → skips m b ≡ false → dark b ≡ true
+dark-byte : (m : Mode) (b : ℕ) → skips m b ≡ false → goes Blank b ≡ true
 dark-byte Start b h = not-from-false (blank b) (or-parts (blank b) (eqb b 99) h .0)
 dark-byte Within b h = not-from-false (blank b) h
 dark-byte Comment b h = absurd (both-ways true h refl)
@@ -49,7 +51,7 @@ dark-byte Comment b h = absurd (both-ways true h refl)
 -- a word goes on to the next blank
 Run : ℕ → ℕ → List ℕ → Type 0
 unfolding tokens
-Run at b bs = opens at b bs (tokens (suc at) Within bs) ≡ record { place = at; bytes = b ∷ take (leading dark bs) bs } ∷ tokens (suc at + leading dark bs) Within (drop (leading dark bs) bs)
+Run at b bs = opens at b bs (tokens (suc at) Within bs) ≡ record { place = at; bytes = b ∷ take (leading (goes Blank) bs) bs } ∷ tokens (suc at + leading (goes Blank) bs) Within (drop (leading (goes Blank) bs) bs)
 
 ends-here : (at b c : ℕ) (bs : List ℕ) → blank c ≡ true → Run at b (c ∷ bs)
 unfolding tokens Run
@@ -62,7 +64,7 @@ goes-on : (at b c : ℕ) (bs : List ℕ) → blank c ≡ false → Run (suc at) 
 unfolding tokens Run
 goes-on at b c bs e r =
     simp (e, one-add)
-    (ap (extends at b) r ∙ ap (λ i. record { place = at; bytes = b ∷ c ∷ take (leading dark bs) bs } ∷ tokens i Within (drop (leading dark bs) bs)) (shift at (leading dark bs)))
+    (ap (extends at b) r ∙ ap (λ i. record { place = at; bytes = b ∷ c ∷ take (leading (goes Blank) bs) bs } ∷ tokens i Within (drop (leading (goes Blank) bs) bs)) (shift at (leading (goes Blank) bs)))
 
 run : (at b : ℕ) (bs : List ℕ) → Run at b bs
 unfolding tokens Run
@@ -72,24 +74,24 @@ run at b (c ∷ bs) = ⊎-elim (ends-here at b c bs) (λ e. goes-on at b c bs e 
 -- where the cursor stands at a word
 module _ (text : List ℕ) (at : ℕ) (m : Mode) (lt : at < length text) (is : skips m (getD text at 0) ≡ false) where
   size : ℕ
-  size = leading dark (drop at text)
+  size = leading (goes Blank) (drop at text)
 
-  size-is : size ≡ 1 + leading dark (drop (at + 1) text)
+  size-is : size ≡ 1 + leading (goes Blank) (drop (at + 1) text)
   unfolding size
-  size-is = leading-drop-yes dark text at 0 lt (dark-byte m (getD text at 0) is)
+  size-is = leading-drop-yes (goes Blank) text at 0 lt (dark-byte m (getD text at 0) is)
 
-  pub word-some : 0 < leading dark (drop at text)
+  pub word-some : 0 < leading (goes Blank) (drop at text)
   unfolding size
   word-some = omega (arith, size-is)
 
-  pub word-ahead : ahead text at m ≡ record { place = at; bytes = take (leading dark (drop at text)) (drop at text) } ∷ ahead text (at + leading dark (drop at text)) Within
+  pub word-ahead : ahead text at m ≡ record { place = at; bytes = take (leading (goes Blank) (drop at text)) (drop at text) } ∷ ahead text (at + leading (goes Blank) (drop at text)) Within
   unfolding tokens Run size
   word-ahead =
       let b = getD text at 0 in
       let rest = drop (at + 1) text in
       let one : tokens at m (drop at text) ≡ cond (skips m b) (tokens (suc at) (passed m b) rest) (opens at b rest (tokens (suc at) Within rest)) = at-drop-more (tokens at m) text at 0 lt in
       let two = one ∙ (cond-false (skips m b) _ _ is ∙ run at b rest) in
-      let w : take size (drop at text) ≡ b ∷ take (leading dark rest) rest = rw (size-is, drop-more text at 0 lt, one-add) in
-      let e : at + size ≡ suc at + leading dark rest = omega (arith, size-is) in
-      let d : drop (at + size) text ≡ drop (leading dark rest) rest = ap (λ i. drop i text) (omega (arith, size-is)) ∙ sym (drop-drop (leading dark rest) (at + 1) text) in
+      let w : take size (drop at text) ≡ b ∷ take (leading (goes Blank) rest) rest = rw (size-is, drop-more text at 0 lt, one-add) in
+      let e : at + size ≡ suc at + leading (goes Blank) rest = omega (arith, size-is) in
+      let d : drop (at + size) text ≡ drop (leading (goes Blank) rest) rest = ap (λ i. drop i text) (omega (arith, size-is)) ∙ sym (drop-drop (leading (goes Blank) rest) (at + 1) text) in
       two ∙ sym (λ i. record { place = at; bytes = w i } ∷ tokens (e i) Within (d i))

@@ -2,6 +2,8 @@ pub mod Lines
 pub mod Spelling
 pub mod Numerals
 pub mod Tokens
+pub mod Runs
 pub mod Reading
 pub mod Marks
 pub mod Turns
+pub mod Theorem

@@ -1,5 +1,5 @@
 -- The lines of a text and the words of a line. A text is a list of bytes.
-use mathlib.Core.Bool.{Bool, false, cond, not, _||_}
+use mathlib.Core.Bool.{Bool, false, cond, _||_}
 use mathlib.Core.List.{List, [], _∷_, _++_}
 use Prim.Native.Nat.{ℕ}
 use lib.Dec.{eqb}
@@ -7,9 +7,6 @@ use lib.Dec.{eqb}
 -- space, tab, carriage return and line feed part words
 abbrev pub blank : ℕ → Bool
 blank b = eqb b 32 || (eqb b 9 || (eqb b 13 || eqb b 10))
-
-abbrev pub dark : ℕ → Bool
-dark b = not (blank b)
 
 -- a byte before the first of some lists of bytes
 abbrev pub onto : ℕ → List (List ℕ) → List (List ℕ)

@@ -4,4 +4,7 @@ pub mod cursor;
 mod marks;
 mod numerals;
 mod scanning;
+mod theorem;
 mod words;
+
+pub use theorem::reading_right;

@@ -5,11 +5,10 @@ ghost use mathlib.Core.List.{[], _∷_};
 ghost use Prim.Native.Nat.{ℕ, _+_, _-_, _≤_, _<_};
 ghost use lib.ListN.{length, getD, drop, take};
 ghost use Rattle.std.specs.Options.{Cases};
-ghost use Rattle.std.specs.shelf.Lists.{leading};
-ghost use Rattle.reader.specs.Lines.{dark};
 ghost use Rattle.reader.specs.Tokens.{skips, token, ahead};
 use crate::cursor::Mode;
-use crate::cursor::is_blank;
+use crate::cursor::Until;
+use crate::cursor::run_end;
 
 // A word of the text, and where it begins.
 #[derive(Clone, Copy)]
@@ -25,19 +24,6 @@ pub struct Reader<'a> {
     pub(crate) at: usize,
     pub(crate) mode: Mode,
     ghost inside: { at ≤ length (text .now) },
-}
-
-// Where the word ends that goes on at the place at.
-fn word_end(text: &[u8], at: usize) -> usize
-    requires { ⌜ at ≤ length (now text) ⌝ }
-    ensures end { λ r. ⌜ r ≡ at + leading dark (drop at (now (text .entry))) ⌝ }
-    ensures within { λ r. ⌜ r ≤ length (now (text .entry)) ⌝ }
-{
-    let mut end = at;
-    while end < text.len() && !is_blank(text[end]) {
-        end += 1;
-    }
-    end
 }
 
 impl<'a> Reader<'a> {
@@ -77,7 +63,7 @@ impl<'a> Reader<'a> {
         if start == self.text.len() {
             return None;
         }
-        let end = word_end(self.text, start);
+        let end = run_end(self.text, start, Until::Blank);
         self.at = end;
         self.mode = Mode::Within;
         Some(Word {

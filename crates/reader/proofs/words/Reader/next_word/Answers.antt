@@ -3,9 +3,9 @@ use mathlib.Core.List.{_∷_}
 use Prim.Native.Nat.{_+_, _-_, _<_}
 use native.Mathlib.Omega.{arith}
 use lib.ListN.{length, drop, take}
-use Rattle.std.specs.shelf.Lists.{leading}
 use Rattle.reader.specs.declared.cursor.Mode.the-variants.{Within}
-use Rattle.reader.specs.Lines.{dark}
+use Rattle.reader.specs.declared.cursor.Until.the-variants.{Blank}
+use Rattle.reader.specs.Runs.{run}
 use Rattle.reader.specs.Tokens.{token, ahead}
 use Rattle.reader.proofs.Walks.{nothing-ahead, word-ahead, word-some}
 use Rattle.reader.proofs.words.Reader.next_word.Needs as need
@@ -19,18 +19,18 @@ returns-then-start-self c =
     }
 
 pub ghost-self : need.ghost-self
-ghost-self c = (c .word-end-end .ensures .within, tt)
+ghost-self c = (c .run-end-end .ensures .within, tt)
 
 pub returns : need.returns
 returns c =
     let s = c .skip-gap .last .self in
-    let k = leading dark (drop (s .at) (s .text .now)) in
+    let k = run Blank (drop (s .at) (s .text .now)) in
     let lt : s .at < length (s .text .now) = omega (arith, s .inside) in
     let is = c .skip-gap .ensures .stops lt in
     let told = word-ahead (s .text .now) (s .at) (s .mode) lt is in
     let some = word-some (s .text .now) (s .at) (s .mode) lt is in
-    let ends = c .word-end-end .ensures .end in
-    let size : k ≡ c .word-end-end .result - s .at = omega (arith, ends) in
+    let ends = c .run-end-end .ensures .end in
+    let size : k ≡ c .run-end-end .result - s .at = omega (arith, ends) in
     record {
       text = c .skip-gap .ensures .text;
       word = (
