@@ -8,3 +8,4 @@ pub mod Texts
 pub mod Headers
 pub mod Scans
 pub mod Spelled
+pub mod Fields

@@ -4,6 +4,7 @@ pub mod Numerals
 pub mod Tokens
 pub mod Runs
 pub mod Reading
+pub mod Heads
 pub mod Marks
 pub mod Turns
 pub mod Theorem

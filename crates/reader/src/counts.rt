@@ -12,3 +12,10 @@ pub struct Shape {
     pub odd: bool,
     pub literals: usize,
 }
+
+// What the header says: how many variables there are, and how many rules follow.
+#[derive(Clone, Copy)]
+pub struct Header {
+    pub variables: usize,
+    pub rules: usize,
+}

@@ -2,9 +2,10 @@
 ghost use mathlib.Core.Path.{_≡_};
 ghost use mathlib.Core.Bool.{false};
 ghost use mathlib.Core.List.{[], _∷_};
-ghost use Prim.Native.Nat.{ℕ, _+_, _-_, _≤_, _<_};
+ghost use Prim.Native.Nat.{ℕ, _+_, _-_, _≤_, _<_, min};
 ghost use lib.ListN.{length, getD, drop, take};
 ghost use Rattle.std.specs.Options.{Cases};
+ghost use Rattle.reader.specs.Runs.{run};
 ghost use Rattle.reader.specs.Tokens.{skips, token, ahead};
 use crate::cursor::Mode;
 use crate::cursor::Until;
@@ -70,5 +71,19 @@ impl<'a> Reader<'a> {
             bytes: &self.text[start..end],
             place: start,
         })
+    }
+
+    // The next line, without its line feed.
+    pub fn next_line(&mut self) -> &'a [u8]
+        ensures text { λ _. ⌜ now (self .exit) .text ≡ now (self .entry) .text ⌝ }
+        ensures mode { λ _. ⌜ now (self .exit) .mode ≡ Mode.Start ⌝ }
+        ensures line { λ r. ⌜ now r ≡ take (run Until.Feed (drop (now (self .entry) .at) (now (self .entry) .text .now))) (drop (now (self .entry) .at) (now (self .entry) .text .now)) ⌝ }
+        ensures at { λ _. ⌜ now (self .exit) .at ≡ min (now (self .entry) .at + run Until.Feed (drop (now (self .entry) .at) (now (self .entry) .text .now)) + 1) (length (now (self .entry) .text .now)) ⌝ }
+    {
+        let start = self.at;
+        let end = run_end(self.text, start, Until::Feed);
+        self.at = if end < self.text.len() { end + 1 } else { end };
+        self.mode = Mode::Start;
+        &self.text[start..end]
     }
 }
