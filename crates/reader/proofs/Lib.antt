@@ -9,3 +9,4 @@ pub mod Headers
 pub mod Scans
 pub mod Spelled
 pub mod Fields
+pub mod Lining

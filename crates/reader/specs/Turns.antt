@@ -4,15 +4,19 @@ use mathlib.Core.Bool.{Bool}
 use mathlib.Core.List.{List, [], _++_}
 use Prim.Native.Nat.{ℕ}
 use lib.IntN.{ℤ}
-use lib.ListN.{length}
+use lib.ListN.{length, drop}
 use Rattle.std.specs.declared.option.Option.{Option}
 use Rattle.std.specs.declared.option.Option.the-variants.{Some, None}
 use Rattle.std.specs.declared.result.Result.{Result}
 use Rattle.std.specs.declared.result.Result.the-variants.{Ok, Err}
 use Rattle.rules.specs.declared.fault.Fault.{Fault}
 use Rattle.reader.specs.declared.counts.Shape.{Shape}
-use Rattle.reader.specs.Tokens.{Token}
-use Rattle.reader.specs.Reading.{scan, between, inside, rule-of, with-rule}
+use Rattle.reader.specs.declared.counts.Header.{Header}
+use Rattle.reader.specs.declared.cursor.Mode.{Mode}
+use Rattle.reader.specs.declared.cursor.Mode.the-variants.{Start}
+use Rattle.reader.specs.Lines.{lines}
+use Rattle.reader.specs.Tokens.{Token, tokens, ahead}
+use Rattle.reader.specs.Reading.{scan, between, inside, rule-of, with-rule, find-header}
 
 -- after the literals ls of a rule: as many more as counted, and the rule ends; or the fault that the whole text has
 abbrev pub Literals-read : ℕ → ℕ → List ℤ → List Token → List Token → Result ℕ Fault → Type 0
@@ -24,3 +28,8 @@ abbrev pub Rule-read : ℕ → ℕ → List Token → List Token → Result (Opt
 Rule-read n end ts ts′ (Ok (Some s)) = (ls : List ℤ) × (length ls ≡ s .literals) × (scan n end between ts ≡ with-rule (rule-of (s .odd) ls) (scan n end between ts′))
 Rule-read n end ts ts′ (Ok None) = scan n end between ts ≡ Ok []
 Rule-read n end ts ts′ (Err f) = scan n end between ts ≡ Err f
+
+-- from the place at on: a header, after which the words of the next line on are ahead; or the fault
+abbrev pub Header-read : List ℕ → ℕ → ℕ → Mode → Result Header Fault → Type 0
+Header-read text at at′ m (Ok h) = (next : ℕ) × (find-header (length text) at (lines (drop at text)) ≡ Ok (record { head = record { variables = h .variables; rules = h .rules }; next = next })) × (ahead text at′ m ≡ tokens next Start (drop next text))
+Header-read text at at′ m (Err f) = find-header (length text) at (lines (drop at text)) ≡ Err f

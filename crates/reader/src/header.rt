@@ -1,6 +1,8 @@
 // The header of a rule file, `p cnf V C`.
 ghost use mathlib.Core.Path.{_≡_};
 ghost use mathlib.Core.List.{[]};
+ghost use Prim.Native.Nat.{_≤_};
+ghost use Rattle.std.specs.Vec.{made};
 ghost use lib.Chars.{codes};
 ghost use Rattle.std.specs.shelf.Text.{sameBytes};
 ghost use Rattle.std.specs.declared.option.Option.the-variants.{Some};
@@ -46,7 +48,8 @@ pub fn is_skipped(line: &[u8]) -> bool
 
 // A header within the limits.
 fn limited(variables: u32, rules: u32, place: usize) -> Result<Header, Fault>
-    ensures { λ r. ⌜ r ≡ header-result place (limited-head (Some variables) (Some rules)) ⌝ }
+    ensures value { λ r. ⌜ r ≡ header-result place (limited-head (Some variables) (Some rules)) ⌝ }
+    ensures few { λ r. ⌜ made r (λ h. h .variables ≤ 2048) ⌝ }
 {
     if variables > 2048 || rules > 16384 {
         return Err(Fault { reason: Reason::Header, place });
@@ -78,7 +81,8 @@ fn is_cnf(word: &[u8]) -> bool
 
 // The header that a line is, or a refusal at the line's place.
 pub fn header(line: &[u8], place: usize) -> Result<Header, Fault>
-    ensures { λ r. ⌜ r ≡ header-result place (head-of (words (now (line .entry)))) ⌝ }
+    ensures value { λ r. ⌜ r ≡ header-result place (head-of (words (now (line .entry)))) ⌝ }
+    ensures few { λ r. ⌜ made r (λ h. h .variables ≤ 2048) ⌝ }
 {
     let fault = Fault { reason: Reason::Header, place };
     let (name, rest) = split_word(line);
