@@ -10,3 +10,4 @@ pub mod Scans
 pub mod Spelled
 pub mod Fields
 pub mod Lining
+pub mod Tallies

@@ -11,6 +11,8 @@ use Rattle.std.specs.declared.result.Result.{Result}
 use Rattle.std.specs.declared.result.Result.the-variants.{Ok, Err}
 use Rattle.rules.specs.declared.fault.Fault.{Fault}
 use Rattle.reader.specs.declared.counts.Shape.{Shape}
+use Rattle.reader.specs.declared.counts.Tally.{Tally}
+use Rattle.rules.specs.Rules.{Rule, clauses, odds, numbers}
 use Rattle.reader.specs.declared.counts.Header.{Header}
 use Rattle.reader.specs.declared.cursor.Mode.{Mode}
 use Rattle.reader.specs.declared.cursor.Mode.the-variants.{Start}
@@ -33,3 +35,15 @@ Rule-read n end ts ts′ (Err f) = scan n end between ts ≡ Err f
 abbrev pub Header-read : List ℕ → ℕ → ℕ → Mode → Result Header Fault → Type 0
 Header-read text at at′ m (Ok h) = (next : ℕ) × (find-header (length text) at (lines (drop at text)) ≡ Ok (record { head = record { variables = h .variables; rules = h .rules }; next = next })) × (ahead text at′ m ≡ tokens next Start (drop next text))
 Header-read text at at′ m (Err f) = find-header (length text) at (lines (drop at text)) ≡ Err f
+
+-- how many clauses and odd rules there are, and how many numbers a table needs for them
+pub record Tallied (rs : List Rule) (t : Tally) : Type 0 where
+  pub clause-count : t .clauses ≡ length (clauses rs)
+  pub odd-count : t .odds ≡ length (odds rs)
+  pub clause-size : t .«clause_numbers» ≡ length (numbers (clauses rs))
+  pub odd-size : t .«odd_numbers» ≡ length (numbers (odds rs))
+
+-- all the rules that are ahead, or the fault
+abbrev pub Rules-read : ℕ → ℕ → List Token → Result Tally Fault → Type 0
+Rules-read n end ts (Ok t) = (rs : List Rule) × (scan n end between ts ≡ Ok rs) × Tallied rs t
+Rules-read n end ts (Err f) = scan n end between ts ≡ Err f

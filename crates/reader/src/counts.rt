@@ -19,3 +19,12 @@ pub struct Header {
     pub variables: usize,
     pub rules: usize,
 }
+
+// What the rules read so far come to: how many there are, and how many numbers a table needs for them.
+#[derive(Clone, Copy)]
+pub struct Tally {
+    pub clauses: usize,
+    pub odds: usize,
+    pub clause_numbers: usize,
+    pub odd_numbers: usize,
+}
