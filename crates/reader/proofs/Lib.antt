@@ -11,3 +11,7 @@ pub mod Spelled
 pub mod Fields
 pub mod Lining
 pub mod Tallies
+pub mod Laying
+pub mod Sending
+pub mod Wholes
+pub mod Formats

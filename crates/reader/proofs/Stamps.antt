@@ -55,18 +55,18 @@ or-none false = refl
 -- one literal more
 pub marked-more : {ss : List ℕ} {top : ℕ} {ls : List ℤ} (z : ℤ) → length ss ≡ 2048 → place z < 2048 → Marked ss top ls → Marked (set ss (place z) top) top (ls ++ (z ∷ []))
 marked-more {ss} {top} {ls} z long fits old = record {
-      told = λ i lt.
-          ⊎-elim
-          (λ e.
-              let within : place z < length ss = omega arith in
-              let one : getD (set ss (place z) top) i 0 ≡ top = ap (λ j. getD (set ss (place z) top) j 0) e ∙ getD-set-same ss (place z) top 0 within in
-              eq-eqb _ top one ∙ sym (has-place-push i ls z ∙ or-right (has-place i ls) (eqb (place z) i) (eq-eqb (place z) i (sym e))))
-          (λ n.
-              ap (λ s. eqb s top) (getD-set-other ss (place z) i top 0 n)
-              ∙ (old .told i lt
-              ∙ sym (has-place-push i ls z ∙ (ap (λ b. has-place i ls || b) (ne-eqb (place z) i (λ e. n (sym e))) ∙ or-none (has-place i ls)))))
-          (cases-eq i (place z));
-    }
+  told = λ i lt.
+      ⊎-elim
+      (λ e.
+      let within : place z < length ss = omega arith in
+      let one : getD (set ss (place z) top) i 0 ≡ top = ap (λ j. getD (set ss (place z) top) j 0) e ∙ getD-set-same ss (place z) top 0 within in
+      eq-eqb _ top one ∙ sym (has-place-push i ls z ∙ or-right (has-place i ls) (eqb (place z) i) (eq-eqb (place z) i (sym e))))
+      (λ n.
+      ap (λ s. eqb s top) (getD-set-other ss (place z) i top 0 n)
+      ∙ (old .told i lt
+      ∙ sym (has-place-push i ls z ∙ (ap (λ b. has-place i ls || b) (ne-eqb (place z) i (λ e. n (sym e))) ∙ or-none (has-place i ls)))))
+      (cases-eq i (place z));
+}
 
 pub named-is : (z : ℤ) (ls : List ℤ) → named z ls ≡ has-place (place z) ls
 named-is z [] = refl

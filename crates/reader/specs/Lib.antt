@@ -7,4 +7,5 @@ pub mod Reading
 pub mod Heads
 pub mod Marks
 pub mod Turns
+pub mod Filling
 pub mod Theorem

@@ -2,7 +2,7 @@
 use mathlib.Core.Path.{_≡_}
 use mathlib.Core.Bool.{Bool}
 use mathlib.Core.List.{List, [], _++_}
-use Prim.Native.Nat.{ℕ}
+use Prim.Native.Nat.{ℕ, _≤_}
 use lib.IntN.{ℤ}
 use lib.ListN.{length, drop}
 use Rattle.std.specs.declared.option.Option.{Option}
@@ -11,6 +11,7 @@ use Rattle.std.specs.declared.result.Result.{Result}
 use Rattle.std.specs.declared.result.Result.the-variants.{Ok, Err}
 use Rattle.rules.specs.declared.fault.Fault.{Fault}
 use Rattle.reader.specs.declared.counts.Shape.{Shape}
+use Rattle.reader.specs.declared.counts.Plan.{Plan}
 use Rattle.reader.specs.declared.counts.Tally.{Tally}
 use Rattle.rules.specs.Rules.{Rule, clauses, odds, numbers}
 use Rattle.reader.specs.declared.counts.Header.{Header}
@@ -18,7 +19,7 @@ use Rattle.reader.specs.declared.cursor.Mode.{Mode}
 use Rattle.reader.specs.declared.cursor.Mode.the-variants.{Start}
 use Rattle.reader.specs.Lines.{lines}
 use Rattle.reader.specs.Tokens.{Token, tokens, ahead}
-use Rattle.reader.specs.Reading.{scan, between, inside, rule-of, with-rule, find-header}
+use Rattle.reader.specs.Reading.{scan, between, inside, rule-of, with-rule, find-header, parse}
 
 -- after the literals ls of a rule: as many more as counted, and the rule ends; or the fault that the whole text has
 abbrev pub Literals-read : ℕ → ℕ → List ℤ → List Token → List Token → Result ℕ Fault → Type 0
@@ -47,3 +48,16 @@ pub record Tallied (rs : List Rule) (t : Tally) : Type 0 where
 abbrev pub Rules-read : ℕ → ℕ → List Token → Result Tally Fault → Type 0
 Rules-read n end ts (Ok t) = (rs : List Rule) × (scan n end between ts ≡ Ok rs) × Tallied rs t
 Rules-read n end ts (Err f) = scan n end between ts ≡ Err f
+
+-- the text is well formed, and where its first rule begins all its words are ahead; or the fault
+pub record Planned (text : List ℕ) (p : Plan) : Type 0 where
+  pub rules : List Rule
+  pub parsed : parse text ≡ Ok (record { variables = p .variables; rules = rules })
+  pub scanned : scan (p .variables) (length text) between (ahead text (p .at) (p .mode)) ≡ Ok rules
+  pub tallied : Tallied rules (p .tally)
+  pub few : p .variables ≤ 2048
+  pub within : p .at ≤ length text
+
+abbrev pub Checked : List ℕ → Result Plan Fault → Type 0
+Checked text (Ok p) = Planned text p
+Checked text (Err f) = parse text ≡ Err f

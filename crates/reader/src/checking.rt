@@ -8,10 +8,12 @@ ghost use Rattle.std.specs.Vec.{made};
 ghost use Rattle.rules.specs.Rules.{Rule};
 ghost use Rattle.reader.specs.Reading.{rule-of};
 ghost use Rattle.reader.specs.Tokens.{ahead};
-ghost use Rattle.reader.specs.Turns.{Header-read, Tallied, Rules-read};
+ghost use Rattle.reader.specs.Turns.{Header-read, Tallied, Rules-read, Checked};
 use crate::counts::Header;
+use crate::counts::Plan;
 use crate::counts::Shape;
 use crate::counts::Tally;
+use crate::cursor::Mode;
 use crate::header::header as header_of;
 use crate::header::is_skipped;
 use crate::marks::Marks;
@@ -57,13 +59,17 @@ impl<'a> Reader<'a> {
                 return header_of(line, place);
             }
         }
-        Err(Fault { reason: Reason::Header, place: end })
+        Err(Fault {
+            reason: Reason::Header,
+            place: end,
+        })
     }
 
     // Reads all rules that are left, and tallies them.
     fn rules(&mut self, variables: usize) -> Result<Tally, Fault>
         requires { ⌜ variables ≤ 2048 ⌝ }
         ensures text { λ _. ⌜ now (self .exit) .text ≡ now (self .entry) .text ⌝ }
+        ensures few { λ r. ⌜ made r (λ t. t .clauses + t .odds ≤ length (now (self .entry) .text .now)) ⌝ }
         ensures read { λ r. ⌜ Rules-read variables (length (now (self .entry) .text .now)) (ahead (now (self .entry) .text .now) (now (self .entry) .at) (now (self .entry) .mode)) r ⌝ }
     {
         let mut marks = Marks::new();
@@ -78,4 +84,27 @@ impl<'a> Reader<'a> {
         }
         Ok(tally)
     }
+}
+
+// Whether a text is well formed; nothing is written.
+pub fn check(text: &[u8]) -> Result<Plan, Fault>
+    ensures { λ r. ⌜ Checked (now (text .entry)) r ⌝ }
+{
+    let mut reader = Reader::new(text, 0, Mode::Start);
+    let header = reader.header()?;
+    let at = reader.at;
+    let mode = reader.mode;
+    let tally = reader.rules(header.variables)?;
+    if tally.clauses + tally.odds != header.rules {
+        return Err(Fault {
+            reason: Reason::Count,
+            place: text.len(),
+        });
+    }
+    Ok(Plan {
+        variables: header.variables,
+        tally,
+        at,
+        mode,
+    })
 }

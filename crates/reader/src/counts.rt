@@ -1,3 +1,6 @@
+// What reading a text comes to.
+use crate::cursor::Mode;
+
 // What a text that was accepted holds.
 #[derive(Clone, Copy, PartialEq, Eq, Debug)]
 pub struct Counts {
@@ -27,4 +30,13 @@ pub struct Tally {
     pub odds: usize,
     pub clause_numbers: usize,
     pub odd_numbers: usize,
+}
+
+// A text that is well formed: what it holds, and where its first rule begins.
+#[derive(Clone, Copy)]
+pub struct Plan {
+    pub variables: usize,
+    pub tally: Tally,
+    pub at: usize,
+    pub mode: Mode,
 }

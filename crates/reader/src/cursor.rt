@@ -33,7 +33,11 @@ impl Mode {
             return Mode::Start;
         }
         match self {
-            Mode::Start => if b == b'c' { Mode::Comment } else { Mode::Within },
+            Mode::Start => if b == b'c' {
+                Mode::Comment
+            } else {
+                Mode::Within
+            },
             Mode::Within => Mode::Within,
             Mode::Comment => Mode::Comment,
         }

@@ -52,7 +52,10 @@ fn limited(variables: u32, rules: u32, place: usize) -> Result<Header, Fault>
     ensures few { λ r. ⌜ made r (λ h. h .variables ≤ 2048) ⌝ }
 {
     if variables > 2048 || rules > 16384 {
-        return Err(Fault { reason: Reason::Header, place });
+        return Err(Fault {
+            reason: Reason::Header,
+            place,
+        });
     }
     Ok(Header {
         variables: variables as usize,
@@ -84,7 +87,10 @@ pub fn header(line: &[u8], place: usize) -> Result<Header, Fault>
     ensures value { λ r. ⌜ r ≡ header-result place (head-of (words (now (line .entry)))) ⌝ }
     ensures few { λ r. ⌜ made r (λ h. h .variables ≤ 2048) ⌝ }
 {
-    let fault = Fault { reason: Reason::Header, place };
+    let fault = Fault {
+        reason: Reason::Header,
+        place,
+    };
     let (name, rest) = split_word(line);
     if !is_p(name) {
         return Err(fault);

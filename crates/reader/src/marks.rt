@@ -21,7 +21,10 @@ impl Marks {
     pub fn new() -> Marks
         ensures { λ r. ⌜ r .top ≡ 0 ⌝ }
     {
-        Marks { stamps: [0; 2048], top: 0 }
+        Marks {
+            stamps: [0; 2048],
+            top: 0,
+        }
     }
 
     // A new rule, which has named none.

@@ -22,7 +22,7 @@ use crate::words::Word;
 use rules::Fault;
 use rules::Reason;
 
-fn is_odd(word: &[u8]) -> bool
+pub fn is_odd(word: &[u8]) -> bool
     ensures { λ r. ⌜ r ≡ sameBytes (now (word .entry)) (codes "odd") ⌝ }
 {
     let odd: &[u8] = b"odd";
@@ -38,17 +38,26 @@ fn literal(word: Word, variables: usize, marks: &mut Marks) -> Result<i32, Fault
 {
     let place = word.place;
     let Some(z) = signed_number(word.bytes) else {
-        return Err(Fault { reason: Reason::Form, place });
+        return Err(Fault {
+            reason: Reason::Form,
+            place,
+        });
     };
     let variable = z.unsigned_abs() as usize;
     if variable == 0 {
         return Ok(0);
     }
     if variable > variables {
-        return Err(Fault { reason: Reason::Variable, place });
+        return Err(Fault {
+            reason: Reason::Variable,
+            place,
+        });
     }
     if marks.mark(variable - 1) {
-        return Err(Fault { reason: Reason::Repeated, place });
+        return Err(Fault {
+            reason: Reason::Repeated,
+            place,
+        });
     }
     Ok(z)
 }
@@ -91,13 +100,22 @@ impl<'a> Reader<'a> {
         };
         if is_odd(first.bytes) {
             let literals = self.literals(variables, marks)?;
-            return Ok(Some(Shape { odd: true, literals }));
+            return Ok(Some(Shape {
+                odd: true,
+                literals,
+            }));
         }
         let z = literal(first, variables, marks)?;
         if z == 0 {
-            return Ok(Some(Shape { odd: false, literals: 0 }));
+            return Ok(Some(Shape {
+                odd: false,
+                literals: 0,
+            }));
         }
         let more = self.literals(variables, marks)?;
-        Ok(Some(Shape { odd: false, literals: more + 1 }))
+        Ok(Some(Shape {
+            odd: false,
+            literals: more + 1,
+        }))
     }
 }

@@ -28,13 +28,13 @@ pub struct Reader<'a> {
 }
 
 impl<'a> Reader<'a> {
-    pub fn new(text: &'a [u8], at: usize) -> Reader<'a>
+    pub fn new(text: &'a [u8], at: usize, mode: Mode) -> Reader<'a>
         requires { ⌜ at ≤ length (now text) ⌝ }
         ensures text { λ r. ⌜ r .text ≡ text .entry ⌝ }
         ensures at { λ r. ⌜ r .at ≡ at ⌝ }
-        ensures mode { λ r. ⌜ r .mode ≡ Mode.Start ⌝ }
+        ensures mode { λ r. ⌜ r .mode ≡ mode ⌝ }
     {
-        Reader { text, at, mode: Mode::Start }
+        Reader { text, at, mode }
     }
 
     // Passes over blanks and comments up to the next word.

@@ -11,23 +11,23 @@ returns-then-not-is-p c = record { value = stops-at-p _ _ _ _ (c .split-word .en
 
 pub returns-then-not-is-cnf : need.returns-then-not-is-cnf
 returns-then-not-is-cnf c = record {
-      value = stops-at-cnf _ _ _ _ (c .split-word .ensures .words) (c .if-not-is-p .ensures tt) _ _ (c .split-word-2 .ensures .words) (c .split-word-2 .ensures .none) (c .if-not-is-cnf .ensures tt);
-      few = tt;
-    }
+  value = stops-at-cnf _ _ _ _ (c .split-word .ensures .words) (c .if-not-is-p .ensures tt) _ _ (c .split-word-2 .ensures .words) (c .split-word-2 .ensures .none) (c .if-not-is-cnf .ensures tt);
+  few = tt;
+}
 
 pub returns-in-rest : need.returns-in-rest
 returns-in-rest c = record {
-      value = stops-at-variables _ _ _ _ (c .split-word .ensures .words) (c .if-not-is-p .ensures tt) _ _ (c .split-word-2 .ensures .words) (c .if-not-is-cnf .ensures tt) _ _ (c .split-word-3 .ensures .words)
-    (c .split-word-3 .ensures .none) (c .in-rest .ensures tt .value);
-      few = tt;
-    }
+  value = stops-at-variables _ _ _ _ (c .split-word .ensures .words) (c .if-not-is-p .ensures tt) _ _ (c .split-word-2 .ensures .words) (c .if-not-is-cnf .ensures tt) _ _ (c .split-word-3 .ensures .words)
+      (c .split-word-3 .ensures .none) (c .in-rest .ensures tt .value);
+  few = tt;
+}
 
 pub returns-in-rest-number : need.returns-in-rest-number
 returns-in-rest-number c = record {
-      value = stops-at-rules _ _ _ _ (c .split-word .ensures .words) (c .if-not-is-p .ensures tt) _ _ (c .split-word-2 .ensures .words) (c .if-not-is-cnf .ensures tt) _ _ (c .split-word-3 .ensures .words)
-    _ (c .in-Some .ensures tt .value) _ _ (c .split-word-4 .ensures .words) (c .split-word-4 .ensures .none) (c .in-rest-number .ensures tt .value);
-      few = tt;
-    }
+  value = stops-at-rules _ _ _ _ (c .split-word .ensures .words) (c .if-not-is-p .ensures tt) _ _ (c .split-word-2 .ensures .words) (c .if-not-is-cnf .ensures tt) _ _ (c .split-word-3 .ensures .words)
+      _ (c .in-Some .ensures tt .value) _ _ (c .split-word-4 .ensures .words) (c .split-word-4 .ensures .none) (c .in-rest-number .ensures tt .value);
+  few = tt;
+}
 
 pub returns : need.returns
 returns c =
@@ -35,6 +35,6 @@ returns c =
     let none = nil-from-length (c .split-word-5 .result .0 .now) zero in
     record {
       value = c .limited .ensures .value ∙ ends-well _ _ _ _ (c .split-word .ensures .words) (c .if-not-is-p .ensures tt) _ _ (c .split-word-2 .ensures .words) (c .if-not-is-cnf .ensures tt) _ _ (c .split-word-3 .ensures .words)
-    _ (c .in-Some .ensures tt .value) _ _ (c .split-word-4 .ensures .words) _ (c .in-Some-number .ensures tt .value) (c .split-word-5 .ensures .none none);
+          _ (c .in-Some .ensures tt .value) _ _ (c .split-word-4 .ensures .words) _ (c .in-Some-number .ensures tt .value) (c .split-word-5 .ensures .none none);
       few = c .limited .ensures .few;
     }

@@ -37,10 +37,9 @@ returns-then-not-is-skipped c =
 
 pub loop-self-again : need.loop-self-again
 loop-self-again c =
-    let n = need.at·loop-self-again c .After-next-line-line in
-    (
+    let n = need.at·loop-self-again c .After-next-line-line in (
       c .next-line-line .ensures .text ∙ c .loop-self .inv .0,
-      line-skipped (c .args .self .now .text .now) (c .loop-self .self .at) (c .next-line-line .last .self .at) (c .next-line-line .result .now) (c .loop-self-test .taken) (here n) (on n) (c .if-not-is-skipped .ensures tt) ∙ c .loop-self .inv .1
+      line-skipped (c .args .self .now .text .now) (c .loop-self .self .at) (c .next-line-line .last .self .at) (c .next-line-line .result .now) (c .loop-self-test .taken) (here n) (on n) (c .if-not-is-skipped .ensures tt) ∙ c .loop-self .inv .1,
     )
 
 pub returns : need.returns

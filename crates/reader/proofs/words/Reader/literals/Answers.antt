@@ -52,12 +52,11 @@ pub loop-word-again : need.loop-word-again
 loop-word-again c =
     let k = c .in-Continue-z .ensures tt in
     let m = c .loop-word .inv in
-    let some : natAbs (c .in-Continue-z .z) ≡ 0 → ⊥ = search needs in
-    (
+    let some : natAbs (c .in-Continue-z .z) ≡ 0 → ⊥ = search needs in (
       c .in-Some .ensures tt .text ∙ m .0,
       omega (arith, m .1, c .in-Some .ensures tt .word .1),
       k .top ∙ m .2,
-      λ ls h. let q = m .3 ls h in counting-more q _ _ _ (here (need.at·loop-word-again c .In-Some)) (c .in-Continue-z .z) some (k .says _ (q .marked)) (k .marked _ (q .marked))
+      λ ls h. let q = m .3 ls h in counting-more q _ _ _ (here (need.at·loop-word-again c .In-Some)) (c .in-Continue-z .z) some (k .says _ (q .marked)) (k .marked _ (q .marked)),
     )
 
 pub returns : need.returns

@@ -35,6 +35,6 @@ returns c =
       text = c .skip-gap .ensures .text;
       word = (
         sym (c .skip-gap .ensures .same) ∙ (told ∙ (λ i. token (s .at) (take (size i) (drop (s .at) (s .text .now))) ∷ ahead (c .skip-gap .ensures .text i .now) (sym ends i) Within)),
-        omega (arith, c .skip-gap .ensures .on, some, ends)
+        omega (arith, c .skip-gap .ensures .on, some, ends),
       );
     }

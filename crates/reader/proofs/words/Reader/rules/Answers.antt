@@ -23,6 +23,7 @@ returns-in-Break-shape c =
     let same = ap (λ r. r .now) (c .loop-shape .inv .0) in
     rw (p .1, p .2) (record {
       text = k .text ∙ c .loop-shape .inv .0;
+      few = tt;
       read = gathered-fault (c .loop-shape .inv .4) (c .in-Break-shape .field-0 .0)
           (subst (λ t. Rule-read (c .args .variables) (length t) (ahead t (s .at) (s .mode)) (ahead t (x .at) (x .mode)) (Err (c .in-Break-shape .field-0 .0))) same (k .read));
     })
@@ -36,14 +37,13 @@ loop-shape-again c =
     let same = ap (λ r. r .now) (m .0) in
     let on : s .at + c .in-Some .shape .literals + 1 ≤ x .at = subst (λ o. found o (λ h. s .at + h .literals + 1 ≤ x .at)) (c .in-Some .is) (k .on) in
     let read =
-        subst (λ t. Rule-read (c .args .variables) (length t) (ahead t (s .at) (s .mode)) (ahead t (x .at) (x .mode)) (Ok (Some (c .in-Some .shape)))) same
-        (subst (λ o. Rule-read (c .args .variables) (length (s .text .now)) (ahead (s .text .now) (s .at) (s .mode)) (ahead (s .text .now) (x .at) (x .mode)) (Ok o)) (c .in-Some .is) (k .read)) in
-    (
+    subst (λ t. Rule-read (c .args .variables) (length t) (ahead t (s .at) (s .mode)) (ahead t (x .at) (x .mode)) (Ok (Some (c .in-Some .shape)))) same
+    (subst (λ o. Rule-read (c .args .variables) (length (s .text .now)) (ahead (s .text .now) (s .at) (s .mode)) (ahead (s .text .now) (x .at) (x .mode)) (Ok o)) (c .in-Some .is) (k .read)) in (
       k .text ∙ m .0,
       omega (arith, on, k .top, m .1),
       omega (arith, on, c .counted-tally .ensures .count, m .2),
       omega (arith, on, c .counted-tally .ensures .size, m .3),
-      gathered-more (m .4) (c .in-Some .shape) _ _ read (c .counted-tally .ensures .tallied)
+      gathered-more (m .4) (c .in-Some .shape) _ _ read (c .counted-tally .ensures .tallied),
     )
 
 pub returns : need.returns
@@ -53,6 +53,10 @@ returns c =
     let x = c .rule .last .self in
     let same = ap (λ r. r .now) (c .loop-shape .inv .0) in
     let read =
-        subst (λ t. Rule-read (c .args .variables) (length t) (ahead t (s .at) (s .mode)) (ahead t (x .at) (x .mode)) (Ok None)) same
-        (subst (λ o. Rule-read (c .args .variables) (length (s .text .now)) (ahead (s .text .now) (s .at) (s .mode)) (ahead (s .text .now) (x .at) (x .mode)) (Ok o)) (c .in-rest .is) (k .read)) in
-    record { text = k .text ∙ c .loop-shape .inv .0; read = gathered-all (c .loop-shape .inv .4) read }
+    subst (λ t. Rule-read (c .args .variables) (length t) (ahead t (s .at) (s .mode)) (ahead t (x .at) (x .mode)) (Ok None)) same
+    (subst (λ o. Rule-read (c .args .variables) (length (s .text .now)) (ahead (s .text .now) (s .at) (s .mode)) (ahead (s .text .now) (x .at) (x .mode)) (Ok o)) (c .in-rest .is) (k .read)) in
+    record {
+      text = k .text ∙ c .loop-shape .inv .0;
+      few = omega (arith, c .loop-shape .inv .2, s .inside, ap length same);
+      read = gathered-all (c .loop-shape .inv .4) read;
+    }

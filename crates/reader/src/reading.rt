@@ -1,0 +1,35 @@
+// A rule file, read whole into two tables or refused.
+ghost use mathlib.Core.Path.{_≡_};
+ghost use lib.ListN.{length};
+ghost use Rattle.rules.specs.Rules.{clauses as clause-rules, odds as odd-rules};
+ghost use Rattle.reader.specs.Reading.{parse, answer, filled};
+ghost use Rattle.reader.specs.Theorem.{Read-as};
+use crate::checking::check;
+use crate::counts::Counts;
+use crate::words::Reader;
+use rules::Fault;
+use rules::Reason;
+
+// Reads a text. Where it is accepted, each table holds its rules from its start, and what lies beyond is as before;
+// where it is refused, both tables are as before.
+pub fn read(text: &[u8], clauses: &mut [i32], odds: &mut [i32]) -> Result<Counts, Fault>
+    ensures answer { λ r. ⌜ r ≡ answer (length (now (text .entry))) (length (now (clauses .entry))) (length (now (odds .entry))) (parse (now (text .entry))) ⌝ }
+    ensures clauses { λ _. ⌜ now (clauses .exit) ≡ filled clause-rules (length (now (clauses .entry))) (length (now (odds .entry))) (now (clauses .entry)) (parse (now (text .entry))) ⌝ }
+    ensures odds { λ _. ⌜ now (odds .exit) ≡ filled odd-rules (length (now (clauses .entry))) (length (now (odds .entry))) (now (odds .entry)) (parse (now (text .entry))) ⌝ }
+    ensures spelled { λ r. ⌜ Read-as (now (text .entry)) (now (clauses .entry)) (now (clauses .exit)) (now (odds .entry)) (now (odds .exit)) r ⌝ }
+{
+    let plan = check(text)?;
+    if plan.tally.clause_numbers > clauses.len() || plan.tally.odd_numbers > odds.len() {
+        return Err(Fault {
+            reason: Reason::Short,
+            place: text.len(),
+        });
+    }
+    let mut reader = Reader::new(text, plan.at, plan.mode);
+    reader.fill(clauses, odds);
+    Ok(Counts {
+        variables: plan.variables,
+        clauses: plan.tally.clauses,
+        odds: plan.tally.odds,
+    })
+}
