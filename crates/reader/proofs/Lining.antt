@@ -22,7 +22,7 @@ use Rattle.rules.specs.declared.fault.Reason.the-variants.{Header}
 use Rattle.reader.specs.declared.cursor.Mode.{Mode}
 use Rattle.reader.specs.declared.cursor.Mode.the-variants.{Start}
 use Rattle.reader.specs.declared.cursor.Until.the-variants.{Feed}
-use Rattle.reader.specs.declared.counts.Header.{Header as Headline}
+use Rattle.reader.specs.declared.parts.Header.{Header as Headline}
 use Rattle.reader.specs.Lines.{lines, onto, words}
 use Rattle.reader.specs.Runs.{goes, run}
 use Rattle.reader.specs.Tokens.{Token, tokens, ahead}

@@ -21,7 +21,7 @@ use Rattle.reader.specs.Marks.{Marked, said-by, grown}
 use lib.Chars.{codes}
 use Rattle.std.specs.declared.option.Option.the-variants.{Some, None}
 use Rattle.std.specs.shelf.Text.{sameBytes}
-use Rattle.reader.specs.declared.counts.Shape.{Shape}
+use Rattle.reader.specs.declared.parts.Shape.{Shape}
 use Rattle.reader.specs.Turns.{Literals-read, Rule-read}
 
 -- a word inside a rule

@@ -13,8 +13,8 @@ use Rattle.std.proofs.shelf.Lists.{length-push}
 use Rattle.std.proofs.shelf.Tests.{true≢false, false≢true}
 use Rattle.rules.specs.declared.fault.Fault.{Fault}
 use Rattle.rules.specs.Rules.{Rule, clause, odd, clauses, odds, numbers}
-use Rattle.reader.specs.declared.counts.Shape.{Shape}
-use Rattle.reader.specs.declared.counts.Tally.{Tally}
+use Rattle.reader.specs.declared.parts.Shape.{Shape}
+use Rattle.reader.specs.declared.parts.Tally.{Tally}
 use Rattle.reader.specs.Tokens.{Token}
 use Rattle.reader.specs.Reading.{scan, between, rule-of, with-rule}
 use Rattle.reader.specs.Turns.{Rule-read, Tallied, Rules-read}

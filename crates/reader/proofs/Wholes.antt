@@ -15,9 +15,9 @@ use Rattle.rules.specs.declared.fault.Fault.{Fault}
 use Rattle.rules.specs.declared.fault.Reason.the-variants.{Count, Short}
 use Rattle.rules.specs.Rules.{Rule, clause, odd, clauses, odds, numbers}
 use Rattle.reader.specs.declared.counts.Counts.{Counts}
-use Rattle.reader.specs.declared.counts.Header.{Header}
-use Rattle.reader.specs.declared.counts.Plan.{Plan}
-use Rattle.reader.specs.declared.counts.Tally.{Tally}
+use Rattle.reader.specs.declared.parts.Header.{Header}
+use Rattle.reader.specs.declared.parts.Plan.{Plan}
+use Rattle.reader.specs.declared.parts.Tally.{Tally}
 use Rattle.reader.specs.declared.cursor.Mode.{Mode}
 use Rattle.reader.specs.Lines.{lines}
 use Rattle.reader.specs.Tokens.{ahead}

@@ -6,7 +6,7 @@ use Rattle.std.specs.declared.result.Result.{Result}
 use Rattle.std.specs.declared.result.Result.the-variants.{Ok, Err}
 use Rattle.rules.specs.declared.fault.Fault.{Fault}
 use Rattle.rules.specs.declared.fault.Reason.the-variants.{Header as NoHeader}
-use Rattle.reader.specs.declared.counts.Header.{Header}
+use Rattle.reader.specs.declared.parts.Header.{Header}
 use Rattle.reader.specs.Reading.{faulty, Head}
 
 abbrev pub header-result : ℕ → Option Head → Result Header Fault

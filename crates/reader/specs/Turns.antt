@@ -10,11 +10,11 @@ use Rattle.std.specs.declared.option.Option.the-variants.{Some, None}
 use Rattle.std.specs.declared.result.Result.{Result}
 use Rattle.std.specs.declared.result.Result.the-variants.{Ok, Err}
 use Rattle.rules.specs.declared.fault.Fault.{Fault}
-use Rattle.reader.specs.declared.counts.Shape.{Shape}
-use Rattle.reader.specs.declared.counts.Plan.{Plan}
-use Rattle.reader.specs.declared.counts.Tally.{Tally}
+use Rattle.reader.specs.declared.parts.Shape.{Shape}
+use Rattle.reader.specs.declared.parts.Plan.{Plan}
+use Rattle.reader.specs.declared.parts.Tally.{Tally}
 use Rattle.rules.specs.Rules.{Rule, clauses, odds, numbers}
-use Rattle.reader.specs.declared.counts.Header.{Header}
+use Rattle.reader.specs.declared.parts.Header.{Header}
 use Rattle.reader.specs.declared.cursor.Mode.{Mode}
 use Rattle.reader.specs.declared.cursor.Mode.the-variants.{Start}
 use Rattle.reader.specs.Lines.{lines}

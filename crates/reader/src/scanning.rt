@@ -14,7 +14,7 @@ ghost use Rattle.std.specs.shelf.Text.{sameBytes};
 ghost use Rattle.reader.specs.Tokens.{ahead};
 ghost use Rattle.reader.specs.Marks.{Marked, said-by, grown};
 ghost use Rattle.reader.specs.Turns.{Literals-read, Rule-read};
-use crate::counts::Shape;
+use crate::parts::Shape;
 use crate::marks::Marks;
 use crate::numerals::signed_number;
 use crate::words::Reader;

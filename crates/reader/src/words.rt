@@ -5,7 +5,7 @@ ghost use mathlib.Core.List.{[], _∷_};
 ghost use Prim.Native.Nat.{ℕ, _+_, _-_, _≤_, _<_, min};
 ghost use lib.ListN.{length, getD, drop, take};
 ghost use Rattle.std.specs.Options.{Cases};
-ghost use Rattle.reader.specs.Runs.{run};
+ghost use Rattle.reader.specs.Runs.{run, line-of, after-line};
 ghost use Rattle.reader.specs.Tokens.{skips, token, ahead};
 use crate::cursor::Mode;
 use crate::cursor::Until;
@@ -86,4 +86,16 @@ impl<'a> Reader<'a> {
         self.mode = Mode::Start;
         &self.text[start..end]
     }
+}
+
+// The first line of a text, and what follows its line feed.
+pub fn first_line<'a>(text: &'a [u8]) -> (&'a [u8], &'a [u8])
+    ensures line { λ r. ⌜ now (r .0) ≡ line-of (now (text .entry)) ⌝ }
+    ensures rest { λ r. ⌜ now (r .1) ≡ after-line (now (text .entry)) ⌝ }
+{
+    let end = run_end(text, 0, Until::Feed);
+    if end == text.len() {
+        return (text, &text[end..]);
+    }
+    (&text[0..end], &text[end + 1..])
 }

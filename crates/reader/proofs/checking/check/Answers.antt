@@ -7,8 +7,8 @@ use Rattle.std.specs.declared.result.Result.{Result}
 use Rattle.std.specs.declared.result.Result.the-variants.{Ok, Err}
 use Rattle.std.proofs.shelf.Results.{err-from-errBy}
 use Rattle.rules.specs.declared.fault.Fault.{Fault}
-use Rattle.reader.specs.declared.counts.Header.{Header}
-use Rattle.reader.specs.declared.counts.Tally.{Tally}
+use Rattle.reader.specs.declared.parts.Header.{Header}
+use Rattle.reader.specs.declared.parts.Tally.{Tally}
 use Rattle.reader.specs.Tokens.{ahead}
 use Rattle.reader.specs.Turns.{Header-read, Rules-read}
 use Rattle.reader.proofs.Wholes.{header-fault, rules-fault, count-fault, planned}

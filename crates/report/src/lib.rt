@@ -1,0 +1,5 @@
+//! What the program `split` writes for an input, as a function from bytes to bytes.
+mod input;
+mod lines;
+
+pub use input::report;
