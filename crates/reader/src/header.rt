@@ -10,10 +10,10 @@ ghost use Rattle.reader.specs.Lines.{words, comment};
 ghost use Rattle.reader.specs.Runs.{led};
 ghost use Rattle.reader.specs.Reading.{head-of, is-silent, limited as limited-head};
 ghost use Rattle.reader.specs.Heads.{header-result};
-use crate::parts::Header;
 use crate::cursor::Until;
 use crate::cursor::run_end;
 use crate::numerals::number;
+use crate::parts::Header;
 use rules::Fault;
 use rules::Reason;
 

@@ -2,7 +2,7 @@
 ghost use mathlib.Core.Path.{_≡_};
 ghost use mathlib.Core.Bool.{false};
 ghost use mathlib.Core.List.{[], _∷_};
-ghost use Prim.Native.Nat.{ℕ, _+_, _-_, _≤_, _<_, min};
+ghost use Prim.Native.Nat.{ℕ, suc, _+_, _-_, _≤_, _<_, min};
 ghost use lib.ListN.{length, getD, drop, take};
 ghost use Rattle.std.specs.Options.{Cases};
 ghost use Rattle.reader.specs.Runs.{run, line-of, after-line};
@@ -88,14 +88,22 @@ impl<'a> Reader<'a> {
     }
 }
 
+// What follows the byte at a place, nothing at the end of the text.
+fn after_byte<'a>(text: &'a [u8], at: usize) -> &'a [u8]
+    ensures { λ r. ⌜ now r ≡ drop (suc at) (now (text .entry)) ⌝ }
+{
+    if at < text.len() {
+        &text[at + 1..]
+    } else {
+        &[]
+    }
+}
+
 // The first line of a text, and what follows its line feed.
 pub fn first_line<'a>(text: &'a [u8]) -> (&'a [u8], &'a [u8])
     ensures line { λ r. ⌜ now (r .0) ≡ line-of (now (text .entry)) ⌝ }
     ensures rest { λ r. ⌜ now (r .1) ≡ after-line (now (text .entry)) ⌝ }
 {
     let end = run_end(text, 0, Until::Feed);
-    if end == text.len() {
-        return (text, &text[end..]);
-    }
-    (&text[0..end], &text[end + 1..])
+    (&text[0..end], after_byte(text, end))
 }

@@ -102,7 +102,10 @@ mod tests {
         (b"depth,1\np cnf 3 1\n1 \x00 0\n", "refused,12,12\n"),
         (b"depth,1\np cnf 3 1\n1\x0b2 0\n", "refused,12,10\n"),
         (b"depth,1\np cnf 3 1\nc x y z\n1 2 0 y\n", "refused,12,24\n"),
-        (b"depth,1\np cnf 3 1\n1 2\nc 9 9 9\n9 0\n", "refused,13,22\n"),
+        (
+            b"depth,1\np cnf 3 1\n1 2\nc 9 9 9\n9 0\n",
+            "refused,13,22\n",
+        ),
         (b"depth,1\np cnf 3 1\nodd odd 0\n", "refused,12,14\n"),
         (b"depth,1\np cnf 3 1\n1 odd 2 0\n", "refused,12,12\n"),
         (b"depth,1\np cnf 3 1\nodd 1 odd 2 0\n", "refused,12,16\n"),
@@ -135,8 +138,14 @@ mod tests {
         (b"depth,1\np cnf 3 2\n1 0 2 0 3 0", "refused,16,21\n"),
         (b"depth,1\np cnf 3 2\n0", "refused,16,11\n"),
         (b"depth,1\np cnf 3 2\n0 0 0", "refused,16,15\n"),
-        (b"depth,1\np cnf 3 2\n1 2 0 \n \t\r\nc end", "refused,16,26\n"),
-        (b"depth,1\np cnf 3 2\n1 2 0 3\nc no end of line", "refused,15,34\n"),
+        (
+            b"depth,1\np cnf 3 2\n1 2 0 \n \t\r\nc end",
+            "refused,16,26\n",
+        ),
+        (
+            b"depth,1\np cnf 3 2\n1 2 0 3\nc no end of line",
+            "refused,15,34\n",
+        ),
     ];
 
     // Texts that are well formed.
@@ -148,11 +157,26 @@ mod tests {
         (b"depth,1\np cnf 0 1\nodd 0\n", "read,0,0,1\n"),
         (b"depth,1\np cnf 3 1\nodd 1 2 3 0\n", "read,3,0,1\n"),
         (b"depth,1\np cnf 3 2\n1 -2 3 0 odd -1 2 0\n", "read,3,1,1\n"),
-        (b"depth,1\np cnf 3 2\n1\n-2\n3\n0\nodd\n-1 2\n0", "read,3,1,1\n"),
-        (b"depth,1\np cnf 3 2\r\n1 2 0\r\nodd 3 0\r\n", "read,3,1,1\n"),
-        (b"depth,1\n\tp\tcnf\t3\t2\t\n\t1\t0\todd\t0\t", "read,3,1,1\n"),
-        (b"depth,1\nc a\nc b\n\np cnf 3 2\nc in\n1 2\nc between the words\n3 0\nodd\nc after odd\n1 0\nc last", "read,3,1,1\n"),
-        (b"depth,1\np cnf 2048 2\n2048 -1 0 odd -2048 1 0\n", "read,2048,1,1\n"),
+        (
+            b"depth,1\np cnf 3 2\n1\n-2\n3\n0\nodd\n-1 2\n0",
+            "read,3,1,1\n",
+        ),
+        (
+            b"depth,1\np cnf 3 2\r\n1 2 0\r\nodd 3 0\r\n",
+            "read,3,1,1\n",
+        ),
+        (
+            b"depth,1\n\tp\tcnf\t3\t2\t\n\t1\t0\todd\t0\t",
+            "read,3,1,1\n",
+        ),
+        (
+            b"depth,1\nc a\nc b\n\np cnf 3 2\nc in\n1 2\nc between the words\n3 0\nodd\nc after odd\n1 0\nc last",
+            "read,3,1,1\n",
+        ),
+        (
+            b"depth,1\np cnf 2048 2\n2048 -1 0 odd -2048 1 0\n",
+            "read,2048,1,1\n",
+        ),
         (b"depth,1\np cnf 3 3\n0 0 0\n", "read,3,3,0\n"),
         (b"depth,1\np cnf 3 3\nodd 0 odd 0 odd 0\n", "read,3,0,3\n"),
         (b"depth,1\np cnf 3 1\n1 2 3 0\nc 4 0", "read,3,1,0\n"),
@@ -193,7 +217,13 @@ mod tests {
     }
 
     // A text of a head, a piece many times over, and a tail.
-    fn repeated(heap: Global, head: &[u8], piece: &[u8], times: u32, tail: &[u8]) -> Result<Vec<u8>, AllocError> {
+    fn repeated(
+        heap: Global,
+        head: &[u8],
+        piece: &[u8],
+        times: u32,
+        tail: &[u8],
+    ) -> Result<Vec<u8>, AllocError> {
         let mut text = Vec::new(heap);
         text.extend_from_slice(head)?;
         for _ in 0..times {
@@ -204,17 +234,71 @@ mod tests {
     }
 
     // Head, piece, how often, tail, and what is written.
-    const LONG: [(&'static [u8], &'static [u8], u32, &'static [u8], &'static str); 10] = [
-        (b"depth,1\np cnf 1 16384\n", b"0 ", 16384, b"", "read,1,16384,0\n"),
-        (b"depth,1\np cnf 1 16384\n", b"0 ", 16383, b"", "refused,16,32780\n"),
-        (b"depth,1\np cnf 1 16384\n", b"0 ", 16385, b"", "refused,16,32784\n"),
-        (b"depth,1\np cnf 1 8192\n", b"1 0 ", 8192, b"", "read,1,8192,0\n"),
-        (b"depth,1\np cnf 2 8192\n", b"1 0 ", 8191, b"1 2 0", "refused,17,32782\n"),
-        (b"depth,1\np cnf 3 4096\n", b"odd 1 2 3 0 ", 4096, b"", "read,3,0,4096\n"),
-        (b"depth,1\np cnf 3 4097\n", b"odd 1 2 3 0 ", 4096, b"odd 0", "refused,17,49170\n"),
+    const LONG: [(
+        &'static [u8],
+        &'static [u8],
+        u32,
+        &'static [u8],
+        &'static str,
+    ); 10] = [
+        (
+            b"depth,1\np cnf 1 16384\n",
+            b"0 ",
+            16384,
+            b"",
+            "read,1,16384,0\n",
+        ),
+        (
+            b"depth,1\np cnf 1 16384\n",
+            b"0 ",
+            16383,
+            b"",
+            "refused,16,32780\n",
+        ),
+        (
+            b"depth,1\np cnf 1 16384\n",
+            b"0 ",
+            16385,
+            b"",
+            "refused,16,32784\n",
+        ),
+        (
+            b"depth,1\np cnf 1 8192\n",
+            b"1 0 ",
+            8192,
+            b"",
+            "read,1,8192,0\n",
+        ),
+        (
+            b"depth,1\np cnf 2 8192\n",
+            b"1 0 ",
+            8191,
+            b"1 2 0",
+            "refused,17,32782\n",
+        ),
+        (
+            b"depth,1\np cnf 3 4096\n",
+            b"odd 1 2 3 0 ",
+            4096,
+            b"",
+            "read,3,0,4096\n",
+        ),
+        (
+            b"depth,1\np cnf 3 4097\n",
+            b"odd 1 2 3 0 ",
+            4096,
+            b"odd 0",
+            "refused,17,49170\n",
+        ),
         (b"depth,1\np cnf 0 0\nc", b"x", 65517, b"", "read,0,0,0\n"),
         (b"depth,1\np cnf 0 0\nc", b"x", 65518, b"", "refused,10,0\n"),
-        (b"depth,1\np cnf 1 16384\n", b"0 ", 16384, b"x", "refused,12,32782\n"),
+        (
+            b"depth,1\np cnf 1 16384\n",
+            b"0 ",
+            16384,
+            b"x",
+            "refused,12,32782\n",
+        ),
     ];
 
     #[test]

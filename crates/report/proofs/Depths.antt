@@ -1,20 +1,18 @@
 -- A line that begins with `depth,`.
 use mathlib.Core.Path.{_≡_, refl, sym, ap, _∙_}
-use mathlib.Core.Bool.{Bool, true, false, cond}
 use mathlib.Core.List.{List}
 use Prim.Native.Nat.{ℕ, _-_, _≤_, _<_}
 use native.Mathlib.Omega.{arith}
 use lib.Chars.{codes}
-use lib.Dec.{leb}
 use lib.ListN.{length, getD, take, drop}
 use Rattle.std.specs.declared.option.Option.{Option}
 use Rattle.std.specs.declared.option.Option.the-variants.{Some, None}
 use Rattle.std.specs.shelf.Text.{sameBytes}
 use Rattle.std.proofs.shelf.Equals.{sameBytes-decides, text-from-reads}
 use Rattle.std.proofs.shelf.Lists.{length-take-le, getD-take, take-rest}
-use Rattle.std.proofs.shelf.Tests.{cond-true, cond-false, le-leb, lt-leb}
+use Rattle.std.proofs.shelf.Tests.{cond-true}
 use Rattle.reader.specs.Numerals.{numeral}
-use Rattle.report.specs.Report.{shallow, depth-in}
+use Rattle.report.specs.Report.{at-most-deepest, depth-by, depth-in}
 
 pub record Headed (l : List ℕ) : Type 0 where
   pub long : 6 ≤ length l
@@ -34,16 +32,13 @@ module _ (l : List ℕ) (q : Headed l) where
       text-from-reads (take 6 l) (codes "depth,") (length-take-le 6 l (q .long))
       (at 0 100 (omega arith) (q .d), (at 1 101 (omega arith) (q .e), (at 2 112 (omega arith) (q .p), (at 3 116 (omega arith) (q .t), (at 4 104 (omega arith) (q .h), (at 5 44 (omega arith) (q .comma), tt))))))
 
-  said : depth-in l ≡ shallow (numeral (take (length l - 6) (drop 6 l)))
+  said : depth-in l ≡ depth-by (numeral (take (length l - 6) (drop 6 l)))
   said =
-      cond-true (sameBytes (take 6 l) (codes "depth,")) (shallow (numeral (drop 6 l))) None (sameBytes-decides (take 6 l) (codes "depth,") .1 front)
-      ∙ ap (λ ds. shallow (numeral ds)) (sym (take-rest l 6))
+      cond-true (sameBytes (take 6 l) (codes "depth,")) (depth-by (numeral (drop 6 l))) None (sameBytes-decides (take 6 l) (codes "depth,") .1 front)
+      ∙ ap (λ ds. depth-by (numeral ds)) (sym (take-rest l 6))
 
   pub no-number : None ≡ numeral (take (length l - 6) (drop 6 l)) → None ≡ depth-in l
-  no-number e = sym (said ∙ ap shallow (sym e))
+  no-number e = sym (said ∙ ap depth-by (sym e))
 
-  pub too-deep : (k : ℕ) → Some k ≡ numeral (take (length l - 6) (drop 6 l)) → 2048 < k → None ≡ depth-in l
-  too-deep k e lt = sym (said ∙ (ap shallow (sym e) ∙ cond-false (leb k 2048) (Some k) None (lt-leb k 2048 lt)))
-
-  pub deep-enough : (k : ℕ) → Some k ≡ numeral (take (length l - 6) (drop 6 l)) → k ≤ 2048 → Some k ≡ depth-in l
-  deep-enough k e le = sym (said ∙ (ap shallow (sym e) ∙ cond-true (leb k 2048) (Some k) None (le-leb k 2048 le)))
+  pub some-number : (k : ℕ) → Some k ≡ numeral (take (length l - 6) (drop 6 l)) → at-most-deepest k ≡ depth-in l
+  some-number k e = sym (said ∙ ap depth-by (sym e))

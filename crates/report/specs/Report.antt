@@ -28,13 +28,16 @@ abbrev pub read-line : Counts → List ℕ
 read-line k = codes "read," ++ (decimal (k .variables) ++ (codes "," ++ (decimal (k .clauses) ++ (codes "," ++ (decimal (k .odds) ++ codes "\n")))))
 
 -- a depth is at most 2,048
-abbrev pub shallow : Option ℕ → Option ℕ
-shallow None = None
-shallow (Some d) = cond (leb d 2048) (Some d) None
+abbrev pub at-most-deepest : ℕ → Option ℕ
+at-most-deepest d = cond (leb d 2048) (Some d) None
+
+abbrev pub depth-by : Option ℕ → Option ℕ
+depth-by None = None
+depth-by (Some d) = at-most-deepest d
 
 -- the line `depth,D`
 abbrev pub depth-in : List ℕ → Option ℕ
-depth-in line = cond (sameBytes (take 6 line) (codes "depth,")) (shallow (numeral (drop 6 line))) None
+depth-in line = cond (sameBytes (take 6 line) (codes "depth,")) (depth-by (numeral (drop 6 line))) None
 
 abbrev pub report-line : Result Counts Fault → List ℕ
 report-line (Ok k) = read-line k

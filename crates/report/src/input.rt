@@ -2,7 +2,7 @@
 ghost use mathlib.Core.Path.{_≡_};
 ghost use Rattle.std.specs.Of.String.{string-bytes};
 ghost use Rattle.std.specs.Vec.{made};
-ghost use Rattle.report.specs.Report.{depth-in, report-of};
+ghost use Rattle.report.specs.Report.{at-most-deepest, depth-in, text-line, report-of};
 use crate::lines::accepted;
 use crate::lines::refused;
 use reader::first_line;
@@ -16,6 +16,13 @@ use std::alloc::Global;
 // How many numbers each of the two tables has room for.
 const TABLE: usize = 16_384;
 
+// A depth is at most 2,048.
+fn shallow(depth: u32) -> Option<u32>
+    ensures { λ r. ⌜ r ≡ at-most-deepest depth ⌝ }
+{
+    if depth > 2048 { None } else { Some(depth) }
+}
+
 // The depth that a line `depth,D` says.
 fn depth(line: &[u8]) -> Option<u32>
     ensures { λ r. ⌜ r ≡ depth-in (now (line .entry)) ⌝ }
@@ -26,14 +33,29 @@ fn depth(line: &[u8]) -> Option<u32>
     let Some(depth) = number(digits) else {
         return None;
     };
-    if depth > 2048 { None } else { Some(depth) }
+    shallow(depth)
+}
+
+// What is written for a rule file.
+fn text_report(heap: Global, text: &[u8]) -> Result<String, AllocError>
+    ensures { λ r. ⌜ made r (λ s. string-bytes s ≡ text-line (now (text .entry))) ⌝ }
+{
+    let mut clauses = [0; TABLE];
+    let mut odds = [0; TABLE];
+    match read(text, &mut clauses, &mut odds) {
+        Ok(counts) => accepted(heap, counts),
+        Err(fault) => refused(heap, fault),
+    }
 }
 
 // What is written for an input.
 pub fn report(heap: Global, input: &[u8]) -> Result<String, AllocError>
     ensures { λ r. ⌜ made r (λ s. string-bytes s ≡ report-of (now (input .entry))) ⌝ }
 {
-    let unfit = Fault { reason: Reason::Input, place: 0 };
+    let unfit = Fault {
+        reason: Reason::Input,
+        place: 0,
+    };
     if input.len() > 65_536 {
         return refused(heap, unfit);
     }
@@ -41,10 +63,5 @@ pub fn report(heap: Global, input: &[u8]) -> Result<String, AllocError>
     let Some(_depth) = depth(line) else {
         return refused(heap, unfit);
     };
-    let mut clauses = [0; TABLE];
-    let mut odds = [0; TABLE];
-    match read(text, &mut clauses, &mut odds) {
-        Ok(counts) => accepted(heap, counts),
-        Err(fault) => refused(heap, fault),
-    }
+    text_report(heap, text)
 }

@@ -3,7 +3,7 @@ use mathlib.Core.List.{List}
 use Prim.Native.Nat.{_≤_}
 use lib.ListN.{length, getD}
 use borrow.Author.Needs.{needs}
-use Rattle.report.proofs.Depths.{Headed, no-number, too-deep, deep-enough}
+use Rattle.report.proofs.Depths.{Headed, no-number, some-number}
 use Rattle.report.proofs.input.depth.Needs as need
 
 pub returns-in-rest-number : need.returns-in-rest-number
@@ -12,14 +12,8 @@ returns-in-rest-number c =
     let h : Headed l = record { long = search needs; d = search needs; e = search needs; p = search needs; t = search needs; h = search needs; comma = search needs } in
     no-number l h (c .in-rest-number .ensures tt .value)
 
-pub returns-then-depth-gt2048 : need.returns-then-depth-gt2048
-returns-then-depth-gt2048 c =
+pub returns : need.returns
+returns c =
     let l = c .args .line .now in
     let h : Headed l = record { long = search needs; d = search needs; e = search needs; p = search needs; t = search needs; h = search needs; comma = search needs } in
-    too-deep l h _ (c .in-Some .ensures tt .value) (c .if-depth-gt2048 .taken)
-
-pub returns-else-depth-gt2048 : need.returns-else-depth-gt2048
-returns-else-depth-gt2048 c =
-    let l = c .args .line .now in
-    let h : Headed l = record { long = search needs; d = search needs; e = search needs; p = search needs; t = search needs; h = search needs; comma = search needs } in
-    deep-enough l h _ (c .in-Some .ensures tt .value) (c .if-depth-gt2048 .left)
+    c .shallow .ensures ∙ some-number l h _ (c .in-Some .ensures tt .value)
