@@ -2,7 +2,6 @@
 use mathlib.Core.Path.{_≡_, refl, sym, ap, subst, _∙_}
 use mathlib.Core.Bool.{Bool, true, false, cond, _&&_}
 use mathlib.Core.List.{List, [], _∷_}
-use mathlib.Core.Logic.{_⊎_, inl, inr}
 use Prim.Native.Nat.{ℕ, _+_, _≤_, _<_}
 use native.Mathlib.Omega.{arith}
 use lib.Dec.{eqb, leb}
@@ -10,11 +9,10 @@ use lib.IntN.{ℤ}
 use lib.ListN.{length, drop}
 use Rattle.std.specs.declared.result.Result.{Result}
 use Rattle.std.specs.declared.result.Result.the-variants.{Ok, Err}
-use Rattle.std.proofs.shelf.Tests.{cond-true, cond-false, eq-eqb, ne-eqb, le-leb, lt-leb, and-from, and-left, and-right}
+use Rattle.std.proofs.shelf.Tests.{cond-true, cond-false, eq-eqb, ne-eqb, le-leb, and-from}
 use Rattle.rules.specs.declared.fault.Fault.{Fault}
-use Rattle.rules.specs.declared.fault.Reason.the-variants.{Count, Short}
+use Rattle.rules.specs.declared.fault.Reason.the-variants.{Count}
 use Rattle.rules.specs.Rules.{Rule, clause, odd, clauses, odds, numbers}
-use Rattle.reader.specs.declared.counts.Counts.{Counts}
 use Rattle.reader.specs.declared.parts.Header.{Header}
 use Rattle.reader.specs.declared.parts.Plan.{Plan}
 use Rattle.reader.specs.declared.parts.Tally.{Tally}
@@ -78,41 +76,10 @@ module _ (text : List ℕ) (p : Plan) (h : Planned text p) (c o : ℕ) where
   room : Bool
   room = roomy c o (h .rules)
 
-  short-answer : room ≡ false → Err (faulty Short (length text)) ≡ answer (length text) c o (parse text)
-  unfolding room
-  short-answer e = sym (ap (answer (length text) c o) (h .parsed) ∙ cond-false room _ _ e)
-
-  short-table : room ≡ false → (side : List Rule → List (List ℤ)) (table : List ℤ) → table ≡ filled side c o table (parse text)
-  unfolding room
-  short-table e side table = sym (ap (filled side c o table) (h .parsed) ∙ cond-false room _ _ e)
-
-  clauses-short : c < p .tally .«clause_numbers» → room ≡ false
-  unfolding room
-  clauses-short lt = and-left (leb (length (numbers (clauses (h .rules)))) c) _ (lt-leb _ c (omega (arith, h .tallied .clause-size)))
-
-  odds-short : o < p .tally .«odd_numbers» → room ≡ false
-  unfolding room
-  odds-short lt = and-right _ (leb (length (numbers (odds (h .rules)))) o) (lt-leb _ o (omega (arith, h .tallied .odd-size)))
-
-  -- one of the tables is too short
-  pub record Too-short : Type 0 where
-    pub refuses : Err (faulty Short (length text)) ≡ answer (length text) c o (parse text)
-    pub leaves : (side : List Rule → List (List ℤ)) (table : List ℤ) → table ≡ filled side c o table (parse text)
-
-  pub too-short : (c < p .tally .«clause_numbers») ⊎ (o < p .tally .«odd_numbers») → Too-short
-  too-short (inl lt) = record { refuses = short-answer (clauses-short lt); leaves = short-table (clauses-short lt) }
-  too-short (inr lt) = record { refuses = short-answer (odds-short lt); leaves = short-table (odds-short lt) }
-
   module _ (low : p .tally .«clause_numbers» ≤ c) (high : p .tally .«odd_numbers» ≤ o) where
     enough : room ≡ true
     unfolding room
     enough = and-from _ _ (le-leb (length (numbers (clauses (h .rules)))) c (omega (arith, h .tallied .clause-size))) (le-leb (length (numbers (odds (h .rules)))) o (omega (arith, h .tallied .odd-size)))
-
-    pub full-answer : Ok (record { variables = p .variables; clauses = p .tally .clauses; odds = p .tally .odds }) ≡ answer (length text) c o (parse text)
-    unfolding room
-    full-answer =
-        (λ i. Ok (record { variables = p .variables; clauses = h .tallied .clause-count i; odds = h .tallied .odd-count i }))
-        ∙ sym (ap (answer (length text) c o) (h .parsed) ∙ cond-true room _ _ enough)
 
     sent-size : (which : Bool) (k : ℕ) → length (numbers (part which (h .rules))) ≤ k → length (sent-by which false (ahead text (p .at) (p .mode))) ≤ k
     sent-size which k le = subst (λ zs. length zs ≤ k) (sym (sent-is which (p .variables) (length text) (ahead text (p .at) (p .mode)) (h .rules) (h .few) (h .scanned))) le

@@ -142,7 +142,14 @@ abbrev pub roomy : ℕ → ℕ → List Rule → Bool
 roomy c o rs = leb (length (numbers (clauses rs))) c && leb (length (numbers (odds rs))) o
 
 abbrev pub counts-of : Question → Counts
-counts-of q = record { variables = q .variables; clauses = length (clauses (q .rules)); odds = length (odds (q .rules)) }
+counts-of q =
+    record {
+      variables = q .variables;
+      clauses = length (clauses (q .rules));
+      odds = length (odds (q .rules));
+      «clause_numbers» = length (numbers (clauses (q .rules)));
+      «odd_numbers» = length (numbers (odds (q .rules)));
+    }
 
 -- the answer with tables of c and o places
 abbrev pub answer : ℕ → ℕ → ℕ → Result Question Fault → Result Counts Fault

@@ -29,6 +29,8 @@ fn answer_with(plan: Plan, c: usize, o: usize, end: usize) -> Result<Counts, Fau
         variables: plan.variables,
         clauses: plan.tally.clauses,
         odds: plan.tally.odds,
+        clause_numbers: plan.tally.clause_numbers,
+        odd_numbers: plan.tally.odd_numbers,
     })
 }
 
