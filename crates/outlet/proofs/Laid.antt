@@ -2,11 +2,12 @@
 use mathlib.Core.Path.{_≡_, refl, sym, _∙_, ap}
 use mathlib.Core.List.{List, [], _∷_, _++_, append-assoc}
 use Prim.Native.Nat.{ℕ, _+_, _-_, _≤_, _<_, suc}
+use native.Mathlib.Nat.{add-zero}
 use native.Mathlib.Numerals.{add-one}
 use native.Mathlib.Omega.{arith}
 use lib.ListN.{length, take, drop, set, length-append, length-take, length-drop}
 use borrow.Rule.Slice.PartMut.{putMid}
-use Rattle.std.proofs.shelf.Lists.{take-at, drop-at, drop-drop, set-split}
+use Rattle.std.proofs.shelf.Lists.{take-at, drop-at, drop-drop, set-split, take-append-drop}
 use Rattle.outlet.specs.Memory.{laid, Grew}
 
 pub laid-long : {X : Type 0} (xs ws : List X) (at : ℕ) → at + length ws ≤ length xs → length (laid xs at ws) ≡ length xs
@@ -57,3 +58,10 @@ laid-one xs at x h = set-split xs at x h ∙ ap (λ n. take at xs ++ x ∷ drop 
 
 pub laid-part : {X : Type 0} (xs ws : List X) (at n : ℕ) → n ≡ length ws → putMid at n xs ws ≡ laid xs at ws
 laid-part xs ws at n e = ap (λ l. take at xs ++ (ws ++ l)) (drop-drop n at xs ∙ ap (λ k. drop (at + k) xs) e)
+
+pub laid-nothing : {X : Type 0} (xs : List X) (at : ℕ) → laid xs at [] ≡ xs
+laid-nothing xs at = ap (λ n. take at xs ++ drop n xs) (add-zero at) ∙ take-append-drop at xs
+
+-- ws were laid at a place, and vs behind them
+pub laid-then : {X : Type 0} (xs ys zs ws vs : List X) (at k : ℕ) → at ≤ length xs → ys ≡ laid xs at ws → k ≡ at + length ws → zs ≡ laid ys k vs → zs ≡ laid xs at (ws ++ vs)
+laid-then xs ys zs ws vs at k h e a f = f ∙ ap (λ m. laid m k vs) e ∙ ap (λ j. laid (laid xs at ws) j vs) a ∙ laid-on xs ws vs at h
