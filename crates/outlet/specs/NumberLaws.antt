@@ -1,14 +1,14 @@
 -- The number outlet keeps the laws: above all, no two lists of entries have the same numbers.
 use mathlib.Core.Path.{_≡_, refl, sym, _∙_, ap}
 use mathlib.Core.List.{List, [], _∷_, _++_}
-use Prim.Native.Nat.{ℕ, _+_, _-_, _≤_}
+use Prim.Native.Nat.{ℕ}
 use native.Mathlib.Omega.{arith}
 use lib.IntN.{ℤ, pos}
 use lib.ListN.{length, take, drop}
-use Rattle.std.proofs.shelf.Lists.{take-at, drop-at, drop-drop, take-take}
+use Rattle.std.proofs.shelf.Lists.{take-at, drop-at}
 use Rattle.outlet.specs.declared.numbers.NumberOutlet.{NumberOutlet}
 use Rattle.outlet.specs.Entries.{Entry, cube, learnt, OutletLaws}
-use Rattle.outlet.specs.Memory.{Grew}
+use Rattle.outlet.specs.Memory.{grew-none, grew-more}
 use Rattle.outlet.specs.Numbers.{numbers, HoldsNumbers, KeepsNumbers}
 
 -- lists with fronts of one length are equal part by part
@@ -36,20 +36,6 @@ numbers-told (learnt ls ∷ es) (learnt ks ∷ fs) h =
     let r : ls ++ numbers es ≡ ks ++ numbers fs = cc in
     ap (λ ms. learnt ms ∷ es) (front-same ls ks (numbers es) (numbers fs) n r)
     ∙ ap (λ gs. learnt ks ∷ gs) (numbers-told es fs (rest-same ls ks (numbers es) (numbers fs) n r))
-
--- growing is kept by any number of writes, whatever the memory holds
-pub grew-none : {X : Type 0} (u : ℕ) (xs : List X) → Grew u xs u xs
-grew-none u xs = record { longer = omega arith; written = refl; behind = refl }
-
-pub grew-more : {X : Type 0} (u v w : ℕ) (xs ys zs : List X) → Grew u xs v ys → Grew v ys w zs → Grew u xs w zs
-grew-more u v w xs ys zs g h =
-    let a : u ≤ v = g .longer in
-    let b : v ≤ w = h .longer in
-    let e : v + (w - v) ≡ w = omega arith in
-    record {
-        longer = omega arith;
-        written = sym (take-take u v zs a) ∙ ap (take u) (h .written) ∙ take-take u v ys a ∙ g .written;
-        behind = h .behind ∙ sym (ap (λ n. drop n ys) e) ∙ sym (drop-drop (w - v) v ys) ∙ ap (drop (w - v)) (g .behind) ∙ drop-drop (w - v) v xs ∙ ap (λ n. drop n xs) e }
 
 pub number-laws : OutletLaws HoldsNumbers KeepsNumbers
 number-laws = record {
