@@ -1,11 +1,13 @@
 // Entries as signed numbers in lent memory: kind, count, literals.
 ghost use mathlib.Core.Path.{_≡_};
-ghost use mathlib.Core.List.{List, [], _∷_};
+ghost use mathlib.Core.Bool.{true};
+ghost use mathlib.Core.List.{List, [], _∷_, _++_};
 ghost use Prim.Native.Nat.{ℕ, _+_, _≤_};
 ghost use lib.IntN.{ℤ, pos};
 ghost use lib.ListN.{length, take};
 ghost use denote.Ref.{name};
-ghost use Rattle.outlet.specs.Entries.{Entry};
+ghost use Rattle.outlet.specs.declared.kinds.Kind.{Kind as TheKind};
+ghost use Rattle.outlet.specs.Entries.{Entry, entry-of};
 ghost use Rattle.outlet.specs.Memory.{laid};
 ghost use Rattle.outlet.specs.Numbers.{numbers as numbers-of, kind-number, room-for, numbers-fit, HoldsNumbers, KeepsNumbers};
 ghost use Rattle.outlet.specs.NumberLaws.{number-laws};
@@ -29,7 +31,7 @@ fn number_of(kind: Kind) -> i32
     }
 }
 
-fn has_room(size: usize, used: usize, count: usize) -> bool
+fn fits_in(size: usize, used: usize, count: usize) -> bool
     ensures { λ r. ⌜ r ≡ room-for size used count ⌝ }
 {
     count <= 2048 && used <= size && size - used >= 2 + count
@@ -67,6 +69,26 @@ impl<'a> NumberOutlet<'a> {
             self.cells
         }
     }
+
+    // Whether an entry with these literals fits; its kind does not matter.
+    fn has_room(&self, lits: &[i32]) -> bool
+        ensures value { λ r. ⌜ r ≡ room-for (length (now (self .entry) .cells .now)) (now (self .entry) .used) (length (now (lits .entry))) ⌝ }
+        ensures fits { λ r. ⌜ ((k : TheKind) (es : List Entry) → HoldsNumbers (now (self .entry)) es → r ≡ numbers-fit (length (now (self .entry) .cells .now)) es (entry-of k (now (lits .entry)))) ⌝ }
+    {
+        fits_in(self.cells.len(), self.used, lits.len())
+    }
+
+    // Writes an entry that fits.
+    fn append(&mut self, kind: Kind, lits: &[i32])
+        requires { ⌜ room-for (length (now self .cells .now)) (now self .used) (length (now lits)) ≡ true ⌝ }
+        ensures entries { λ _. ⌜ ((es : List Entry) → HoldsNumbers (now (self .entry)) es → HoldsNumbers (now (self .exit)) (es ++ entry-of kind (now (lits .entry)) ∷ [])) ⌝ }
+        ensures size { λ _. ⌜ length (now (self .exit) .cells .now) ≡ length (now (self .entry) .cells .now) ⌝ }
+        ensures kept { λ _. ⌜ KeepsNumbers (now (self .entry)) (now (self .exit)) ⌝ }
+    {
+        let at = self.used;
+        write_at(self.cells, at, kind, lits);
+        self.used = at + 2 + lits.len();
+    }
 }
 
 pub impl<'a> Outlet for NumberOutlet<'a> as NumbersOut {
@@ -79,16 +101,14 @@ pub impl<'a> Outlet for NumberOutlet<'a> as NumbersOut {
     ghost laws = { number-laws };
 
     fn fits(&self, _kind: Kind, lits: &[i32]) -> bool {
-        has_room(self.cells.len(), self.used, lits.len())
+        self.has_room(lits)
     }
 
     fn put(&mut self, kind: Kind, lits: &[i32]) -> Result<(), Refusal> {
-        if !has_room(self.cells.len(), self.used, lits.len()) {
+        if !self.has_room(lits) {
             return Err(Refusal::NoRoom);
         }
-        let at = self.used;
-        write_at(self.cells, at, kind, lits);
-        self.used = at + 2 + lits.len();
+        self.append(kind, lits);
         Ok(())
     }
 }

@@ -4,7 +4,7 @@ ghost use mathlib.Core.Bool.{true, false, cond};
 ghost use mathlib.Core.List.{List, [], _∷_, _++_};
 ghost use Prim.Native.Nat.{ℕ, _+_, _-_, _<_, _≤_, min};
 ghost use lib.Dec.{leb};
-ghost use lib.ListN.{length, getD, set, take};
+ghost use lib.ListN.{length, getD, set, take, drop};
 ghost use denote.Ref.{name};
 ghost use Rattle.std.specs.Options.{Cases as BySome};
 ghost use Rattle.stack.specs.Items.{items, spares, size, sound, has-room, push-reply, pushed, check-reply, number-of};
@@ -39,6 +39,22 @@ fn write<T: Copy>(cells: &mut [T], i: usize, x: T)
     ensures { λ _. ⌜ now (cells .exit) ≡ set (now (cells .entry)) i x ⌝ }
 {
     cells[i] = x;
+}
+
+// The place i behind the first `from`.
+fn item_behind<T: Copy>(cells: &[T], from: usize, i: usize) -> Option<T>
+    ensures { λ r. ⌜ BySome r (length (drop from (now (cells .entry))) ≤ i) (λ x. (i < length (drop from (now (cells .entry)))) × ((d : T) → x ≡ getD (drop from (now (cells .entry))) i d)) ⌝ }
+{
+    if i < cells.len().saturating_sub(from) { Some(item(cells, from + i)) } else { None }
+}
+
+fn write_behind<T: Copy>(cells: &mut [T], from: usize, i: usize, x: T)
+    ensures behind { λ _. ⌜ drop from (now (cells .exit)) ≡ set (drop from (now (cells .entry))) i x ⌝ }
+    ensures front { λ _. ⌜ take from (now (cells .exit)) ≡ take from (now (cells .entry)) ⌝ }
+{
+    if i < cells.len().saturating_sub(from) {
+        write(cells, from + i, x);
+    }
 }
 
 impl<'a, T: Copy> Stack<'a, T> {
@@ -107,11 +123,7 @@ impl<'a, T: Copy> Stack<'a, T> {
         ensures size { λ _. ⌜ size (now (self .exit)) ≡ size (now (self .entry)) ⌝ }
         ensures same { λ _. ⌜ name (now (self .exit) .cells) ≡ name (now (self .entry) .cells) ⌝ }
     {
-        let n = self.len;
-        if n < self.cells.len() {
-            self.cells[n] = x;
-            self.len = n + 1;
-        }
+        let _ = self.push(x);
     }
 
     // Takes the newest element off; its place keeps the value.
@@ -126,12 +138,12 @@ impl<'a, T: Copy> Stack<'a, T> {
         if self.len == 0 {
             return None;
         }
-        let n = self.len - 1;
-        if n >= self.cells.len() {
+        let top = self.len - 1;
+        if top >= self.cells.len() {
             return None;
         }
-        let x = self.cells[n];
-        self.len = n;
+        let x = self.cells[top];
+        self.len = top;
         Some(x)
     }
 
@@ -166,7 +178,7 @@ impl<'a, T: Copy> Stack<'a, T> {
     pub fn spare(&self, i: usize) -> Option<T>
         ensures { λ r. ⌜ BySome r (length (spares (now (self .entry))) ≤ i) (λ x. (i < length (spares (now (self .entry)))) × ((d : T) → x ≡ getD (spares (now (self .entry))) i d)) ⌝ }
     {
-        if i < self.spare_len() { Some(item(self.cells, self.len + i)) } else { None }
+        item_behind(self.cells, self.len, i)
     }
 
     // Writes the unused place i; the content stays, and past the memory nothing is written.
@@ -177,9 +189,7 @@ impl<'a, T: Copy> Stack<'a, T> {
         ensures size { λ _. ⌜ size (now (self .exit)) ≡ size (now (self .entry)) ⌝ }
         ensures same { λ _. ⌜ name (now (self .exit) .cells) ≡ name (now (self .entry) .cells) ⌝ }
     {
-        if i < self.spare_len() {
-            let at = self.len + i;
-            write(self.cells, at, x);
-        }
+        let n = self.len;
+        write_behind(self.cells, n, i, x);
     }
 }
