@@ -18,7 +18,7 @@ use Rattle.outlet.specs.Entries.{Entry, cube, learnt, entry-of}
 use Rattle.lines.specs.Lines.{line, lines, text, parted, of-kind, cubes-in, learnt-in, Narrow, NarrowEntry}
 use Rattle.lines.proofs.Pieces.{line-long, same-leb}
 use Rattle.textoutlet.specs.declared.out.TextOutlet.{TextOutlet}
-use Rattle.textoutlet.specs.TextHeld.{HoldsText, text-fit, has-room}
+use Rattle.textoutlet.specs.TextHeld.{HoldsText, text-fit, room-for}
 
 lines-push : (c l : ℕ) (es : List Entry) (k : Kind) (ls : List ℤ) →
     lines c l (es ++ entry-of k ls ∷ []) ≡ lines c l es ++ line k (of-kind k (c + cubes-in es) (l + learnt-in es) + 1) ls
@@ -80,7 +80,7 @@ module _ (o : TextOutlet) (es : List Entry) (m : HoldsText o es) where
   used-is : o .used ≡ length (text es)
   used-is = let h = m .within in let e = ap length (sym (m .held)) in sym (e ∙ (simp length-take (omega arith)))
 
-  pub fit-is : length (o .bytes .now) < 2 ^ 64 → (k : Kind) (ls : List ℤ) → text-fit (length (o .bytes .now)) es (entry-of k ls) ≡ has-room o k ls
+  pub fit-is : length (o .bytes .now) < 2 ^ 64 → (k : Kind) (ls : List ℤ) → text-fit (length (o .bytes .now)) es (entry-of k ls) ≡ room-for o k ls
   fit-is s k ls =
       let w = m .within in
       let u = used-is in

@@ -27,8 +27,8 @@ abbrev pub text-fit : ℕ → List Entry → Entry → Bool
 text-fit size es e = leb (length (text (es ++ e ∷ []))) size
 
 -- the same by what the outlet holds, with a test that its counter can go on, which every outlet that holds a text passes
-abbrev pub has-room : TextOutlet → Kind → List ℤ → Bool
-has-room o k ls = ltb (of-kind k (o .cubes) (o .learnt)) (2 ^ 64 - 1) && leb (o .used + length (line k (of-kind k (o .cubes) (o .learnt) + 1) ls)) (length (o .bytes .now))
+abbrev pub room-for : TextOutlet → Kind → List ℤ → Bool
+room-for o k ls = ltb (of-kind k (o .cubes) (o .learnt)) (2 ^ 64 - 1) && leb (o .used + length (line k (of-kind k (o .cubes) (o .learnt) + 1) ls)) (length (o .bytes .now))
 
 -- a put writes into the same memory, behind what was written
 pub record KeepsText (o p : TextOutlet) : Type 0 where

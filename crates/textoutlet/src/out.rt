@@ -1,13 +1,14 @@
 // Entries as lines in lent bytes: letter, number within the kind, literals.
 ghost use mathlib.Core.Path.{_≡_};
-ghost use mathlib.Core.List.{List, []};
+ghost use mathlib.Core.Bool.{true};
+ghost use mathlib.Core.List.{List, [], _∷_, _++_};
 ghost use Prim.Native.Nat.{ℕ, _+_, _-_, _^_, _<_};
 ghost use lib.ListN.{length, take};
 ghost use denote.Ref.{name};
 ghost use Rattle.std.specs.shelf.Lists.{All};
-ghost use Rattle.outlet.specs.Entries.{Entry};
+ghost use Rattle.outlet.specs.Entries.{Entry, entry-of};
 ghost use Rattle.lines.specs.Lines.{text, of-kind, NarrowEntry};
-ghost use Rattle.textoutlet.specs.TextHeld.{HoldsText, KeepsText, has-room, text-fit};
+ghost use Rattle.textoutlet.specs.TextHeld.{HoldsText, KeepsText, room-for, text-fit};
 ghost use Rattle.textoutlet.specs.TextLaws.{text-laws};
 use lines::line_fits;
 use lines::put_line;
@@ -67,9 +68,10 @@ impl<'a> TextOutlet<'a> {
         }
     }
 
+    // Whether an entry fits.
     fn has_room(&self, kind: Kind, lits: &[i32]) -> bool
-        ensures value { λ r. ⌜ r ≡ has-room (now (self .entry)) kind (now (lits .entry)) ⌝ }
-        ensures size { λ _. ⌜ length (now (self .entry) .bytes .now) < 2 ^ 64 ⌝ }
+        ensures value { λ r. ⌜ r ≡ room-for (now (self .entry)) kind (now (lits .entry)) ⌝ }
+        ensures fits { λ r. ⌜ ((es : List Entry) → HoldsText (now (self .entry)) es → r ≡ text-fit (length (now (self .entry) .bytes .now)) es (entry-of kind (now (lits .entry)))) ⌝ }
     {
         let n = self.count(kind);
         let size = self.bytes.len();
@@ -77,6 +79,21 @@ impl<'a> TextOutlet<'a> {
             return false;
         }
         line_fits(n + 1, lits, size - self.used)
+    }
+
+    // Writes the line of an entry that fits.
+    fn append(&mut self, kind: Kind, lits: &[i32])
+        requires { ⌜ room-for (now self) kind (now lits) ≡ true ⌝ }
+        ensures entries { λ _. ⌜ ((es : List Entry) → HoldsText (now (self .entry)) es → HoldsText (now (self .exit)) (es ++ entry-of kind (now (lits .entry)) ∷ [])) ⌝ }
+        ensures size { λ _. ⌜ length (now (self .exit) .bytes .now) ≡ length (now (self .entry) .bytes .now) ⌝ }
+        ensures kept { λ _. ⌜ KeepsText (now (self .entry)) (now (self .exit)) ⌝ }
+    {
+        let n = self.count(kind) + 1;
+        let (cubes, learnt) = counted(kind, self.cubes, self.learnt);
+        let at = self.used;
+        self.used = put_line(self.bytes, at, kind, n, lits);
+        self.cubes = cubes;
+        self.learnt = learnt;
     }
 }
 
@@ -97,12 +114,7 @@ pub impl<'a> Outlet for TextOutlet<'a> as TextOut {
         if !self.has_room(kind, lits) {
             return Err(Refusal::NoRoom);
         }
-        let n = self.count(kind) + 1;
-        let (cubes, learnt) = counted(kind, self.cubes, self.learnt);
-        let at = self.used;
-        self.used = put_line(self.bytes, at, kind, n, lits);
-        self.cubes = cubes;
-        self.learnt = learnt;
+        self.append(kind, lits);
         Ok(())
     }
 }
