@@ -3,7 +3,7 @@ ghost use mathlib.Core.Path.{_≡_};
 ghost use mathlib.Core.Bool.{true, false, cond};
 ghost use mathlib.Core.List.{List, [], _∷_, _++_};
 ghost use Prim.Native.Nat.{ℕ, _+_, _-_, _<_, _≤_, min};
-ghost use lib.Dec.{leb};
+ghost use lib.Dec.{leb, ltb};
 ghost use lib.ListN.{length, getD, set, take, drop};
 ghost use denote.Ref.{name};
 ghost use Rattle.std.specs.Options.{Cases as BySome};
@@ -39,6 +39,21 @@ fn write<T: Copy>(cells: &mut [T], i: usize, x: T)
     ensures { λ _. ⌜ now (cells .exit) ≡ set (now (cells .entry)) i x ⌝ }
 {
     cells[i] = x;
+}
+
+// Writes behind the first n, if there is a place; says whether there is.
+fn place<T: Copy>(cells: &mut [T], n: usize, x: T) -> bool
+    ensures value { λ r. ⌜ r ≡ ltb n (length (now (cells .entry))) ⌝ }
+    ensures memory { λ _. ⌜ now (cells .exit) ≡ set (now (cells .entry)) n x ⌝ }
+    ensures front { λ _. ⌜ take n (now (cells .exit)) ≡ take n (now (cells .entry)) ⌝ }
+    ensures next { λ _. ⌜ (n < length (now (cells .entry)) → take (n + 1) (now (cells .exit)) ≡ take n (now (cells .entry)) ++ x ∷ []) ⌝ }
+{
+    if n < cells.len() {
+        cells[n] = x;
+        true
+    } else {
+        false
+    }
 }
 
 // The place i behind the first `from`.
@@ -106,10 +121,9 @@ impl<'a, T: Copy> Stack<'a, T> {
         ensures same { λ _. ⌜ name (now (self .exit) .cells) ≡ name (now (self .entry) .cells) ⌝ }
     {
         let n = self.len;
-        if n >= self.cells.len() {
+        if !place(self.cells, n, x) {
             return Err(x);
         }
-        self.cells[n] = x;
         self.len = n + 1;
         Ok(())
     }
