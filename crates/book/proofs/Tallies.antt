@@ -17,5 +17,5 @@ pub tally-more : (m : Mark) (xs : List Mark) (i n n′ : ℕ) (d : Mark) (b : Bo
     n ≡ tally-of m (take i xs) → n′ ≡ n + cond b 1 0 → n′ ≡ tally-of m (take (i + 1) xs)
 tally-more m xs i n n′ d b h e k k′ =
     let p : tally-of m (take (i + 1) xs) ≡ tally-of m (take i xs) + cond (same-mark (getD xs i d) m) 1 0 =
-        ap (tally-of m) (take-more xs i d h) ∙ tally-push m (take i xs) (getD xs i d) in
+    ap (tally-of m) (take-more xs i d h) ∙ tally-push m (take i xs) (getD xs i d) in
     k′ ∙ ap (λ z. z + cond b 1 0) k ∙ ap (λ z. tally-of m (take i xs) + cond z 1 0) e ∙ sym p

@@ -47,7 +47,10 @@ impl Drop for Loan {
     fn drop(self)
         requires { ⌜ self .settled ≡ true ⌝ }
     {
-        let Loan { cube: _, settled: _ } = self;
+        let Loan {
+            cube: _,
+            settled: _,
+        } = self;
     }
 }
 

@@ -39,7 +39,10 @@ fn main(rt: LibcRuntime) -> io::Result<()> {
     let looked = look_at(&mut book, 2);
     let finished = finish(&mut book, 1);
     let again = finish(&mut book, 1);
-    println!(rt, "looked at cube 2: {looked}, finished cube 1: {finished}, once more: {again}")?;
+    println!(
+        rt,
+        "looked at cube 2: {looked}, finished cube 1: {finished}, once more: {again}"
+    )?;
     let waiting = book.tally(Mark::Waiting);
     let out = book.tally(Mark::Out);
     let closed = book.tally(Mark::Closed);

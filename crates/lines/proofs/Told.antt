@@ -61,7 +61,7 @@ spaced-told (l ∷ ls) [] us vs p q e = absurd (let z : _≡_ {A = ℕ} 32 10 = 
 spaced-told (l ∷ ls) (k ∷ ks) us vs p q e =
     let f : (signed l ++ spaced ls) ++ 10 ∷ us ≡ (signed k ++ spaced ks) ++ 10 ∷ vs = cc in
     let g : signed l ++ (spaced ls ++ 10 ∷ us) ≡ signed k ++ (spaced ks ++ 10 ∷ vs) =
-        sym (append-assoc (signed l) (spaced ls) (10 ∷ us)) ∙ f ∙ append-assoc (signed k) (spaced ks) (10 ∷ vs) in
+    sym (append-assoc (signed l) (spaced ls) (10 ∷ us)) ∙ f ∙ append-assoc (signed k) (spaced ks) (10 ∷ vs) in
     let r = split (signed l) (signed k) (spaced ls ++ 10 ∷ us) (spaced ks ++ 10 ∷ vs) (big-signed l (p .0)) (big-signed k (q .0)) (stops-spaced ls us) (stops-spaced ks vs) g in
     let t = spaced-told ls ks us vs (p .1) (q .1) (r .1) in
     (ap (λ z. z ∷ ls) (same-signed l k (p .0) (q .0) (r .0)) ∙ ap (λ m. k ∷ m) (t .0), t .1)
@@ -79,7 +79,7 @@ parted-told (l ∷ ls) [] us vs p q e =
     absurd (some-signed l (p .0) (r .0))
 parted-told (l ∷ ls) (k ∷ ks) us vs p q e =
     let g : signed l ++ (spaced ls ++ 10 ∷ us) ≡ signed k ++ (spaced ks ++ 10 ∷ vs) =
-        sym (append-assoc (signed l) (spaced ls) (10 ∷ us)) ∙ e ∙ append-assoc (signed k) (spaced ks) (10 ∷ vs) in
+    sym (append-assoc (signed l) (spaced ls) (10 ∷ us)) ∙ e ∙ append-assoc (signed k) (spaced ks) (10 ∷ vs) in
     let r = split (signed l) (signed k) (spaced ls ++ 10 ∷ us) (spaced ks ++ 10 ∷ vs) (big-signed l (p .0)) (big-signed k (q .0)) (stops-spaced ls us) (stops-spaced ks vs) g in
     let t = spaced-told ls ks us vs (p .1) (q .1) (r .1) in
     (ap (λ z. z ∷ ls) (same-signed l k (p .0) (q .0) (r .0)) ∙ ap (λ m. k ∷ m) (t .0), t .1)
@@ -92,7 +92,7 @@ line-opened k n ls us = ap (λ t. letter k ∷ 44 ∷ t)
 line-told : (k : Kind) (n : ℕ) (ls ks : List ℤ) (us vs : List ℕ) → All Narrow ls → All Narrow ks → line k n ls ++ us ≡ line k n ks ++ vs → (ls ≡ ks) × (us ≡ vs)
 line-told k n ls ks us vs p q e =
     let f : letter k ∷ 44 ∷ (decimal n ++ (44 ∷ (parted ls ++ 10 ∷ us))) ≡ letter k ∷ 44 ∷ (decimal n ++ (44 ∷ (parted ks ++ 10 ∷ vs))) =
-        sym (line-opened k n ls us) ∙ e ∙ line-opened k n ks vs in
+    sym (line-opened k n ls us) ∙ e ∙ line-opened k n ks vs in
     let g = append-cancel-left (letter k ∷ 44 ∷ decimal n) (44 ∷ (parted ls ++ 10 ∷ us)) (44 ∷ (parted ks ++ 10 ∷ vs)) f in
     let h = append-cancel-left (44 ∷ []) (parted ls ++ 10 ∷ us) (parted ks ++ 10 ∷ vs) g in
     parted-told ls ks us vs p q h

@@ -77,7 +77,12 @@ fn cubes_are_lent_by_number() -> Result<(), Fail> {
     let mut book = Book::new();
     let unknown = lend(&mut book, 1);
     let entered = enter(&mut book, 2);
-    let lent = [lend(&mut book, 0), lend(&mut book, 1), lend(&mut book, 3), lend_while_out(&mut book, 2)];
+    let lent = [
+        lend(&mut book, 0),
+        lend(&mut book, 1),
+        lend(&mut book, 3),
+        lend_while_out(&mut book, 2),
+    ];
     let closed = [close(&mut book, 2), lend(&mut book, 2)];
     check(unknown == 26 && entered == 2 && lent == [26, 0, 26, 26] && closed == [0, 26])?;
     let states = [book.state(0), book.state(1), book.state(2), book.state(3)];
@@ -102,7 +107,15 @@ fn the_book_has_4096_entries() -> Result<(), Fail> {
     check(enter(&mut book, 4095) == 4095 && !book.is_full())?;
     check(book.enter() == Ok(4096) && book.is_full())?;
     check(book.enter() == Err(Refusal::Full) && Refusal::Full.number() == 23)?;
-    let lent = [close(&mut book, 4096), lend(&mut book, 4097), lend_while_out(&mut book, 4095)];
-    let tallies = [book.tally(Mark::Waiting), book.tally(Mark::Out), book.tally(Mark::Closed)];
+    let lent = [
+        close(&mut book, 4096),
+        lend(&mut book, 4097),
+        lend_while_out(&mut book, 4095),
+    ];
+    let tallies = [
+        book.tally(Mark::Waiting),
+        book.tally(Mark::Out),
+        book.tally(Mark::Closed),
+    ];
     check(lent == [0, 26, 26] && tallies == [4095, 0, 1])
 }

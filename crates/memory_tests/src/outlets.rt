@@ -33,7 +33,10 @@ fn numbers_as(memory: &mut [i32], places: usize, lits: &[i32], answer: u32) -> b
     let fits = out.fits(Kind::Learnt, lits);
     let answered = number_of(out.put(Kind::Learnt, lits));
     let written = out.as_slice().len();
-    fits == (answer == 0) && answered == answer && (!fits || written == places) && untouched(memory, written, 7)
+    fits == (answer == 0)
+        && answered == answer
+        && (!fits || written == places)
+        && untouched(memory, written, 7)
 }
 
 // Places lent, literals of the entry, and the answer.
@@ -81,7 +84,10 @@ fn lines_as(memory: &mut [u8], size: usize, lits: &[i32], answer: u32) -> bool {
     let fits = out.fits(Kind::Cube, lits);
     let answered = number_of(out.put(Kind::Cube, lits));
     let written = out.as_slice().len();
-    fits == (answer == 0) && answered == answer && (!fits || written == size) && untouched(memory, written, b'.')
+    fits == (answer == 0)
+        && answered == answer
+        && (!fits || written == size)
+        && untouched(memory, written, b'.')
 }
 
 // Bytes lent, literals of the cube, each written as `-1`, and the answer.

@@ -35,16 +35,17 @@ laid-held xs ws ys at n h a e = ap (λ k. take k ys) a ∙ ap (take (at + length
 
 pub laid-grew : {X : Type 0} (xs ws ys : List X) (at n : ℕ) → at ≤ length xs → n ≡ at + length ws → ys ≡ laid xs at ws → Grew at xs n ys
 laid-grew xs ws ys at n h a e = record {
-    longer = omega arith;
-    written = ap (take at) e ∙ laid-front xs ws at h;
-    behind = ap (λ k. drop k ys) a ∙ ap (drop (at + length ws)) e ∙ laid-drop xs ws at h ∙ sym (ap (λ k. drop k xs) a) }
+  longer = omega arith;
+  written = ap (take at) e ∙ laid-front xs ws at h;
+  behind = ap (λ k. drop k ys) a ∙ ap (drop (at + length ws)) e ∙ laid-drop xs ws at h ∙ sym (ap (λ k. drop k xs) a);
+}
 
 -- one piece behind another is one piece
 pub laid-on : {X : Type 0} (xs ws vs : List X) (at : ℕ) → at ≤ length xs → laid (laid xs at ws) (at + length ws) vs ≡ laid xs at (ws ++ vs)
 laid-on xs ws vs at h =
     let n = at + length ws in
     let d : drop (n + length vs) (laid xs at ws) ≡ drop (n + length vs) xs =
-        sym (drop-drop (length vs) n (laid xs at ws)) ∙ ap (drop (length vs)) (laid-drop xs ws at h) ∙ drop-drop (length vs) n xs in
+    sym (drop-drop (length vs) n (laid xs at ws)) ∙ ap (drop (length vs)) (laid-drop xs ws at h) ∙ drop-drop (length vs) n xs in
     let e : n + length vs ≡ at + length (ws ++ vs) = simp length-append (omega arith) in
     ap (λ l. l ++ (vs ++ drop (n + length vs) (laid xs at ws))) (laid-take xs ws at h)
     ∙ ap (λ l. (take at xs ++ ws) ++ (vs ++ l)) d

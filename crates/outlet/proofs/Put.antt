@@ -23,7 +23,7 @@ written xs ys at n a b h e =
     let l : at ≤ length xs = omega arith in
     let q : (at + 1) + 1 ≡ at + 2 = omega arith in
     let two : set (set xs at a) (at + 1) b ≡ laid xs at (a ∷ b ∷ []) =
-        laid-one (set xs at a) (at + 1) b h1 ∙ ap (λ m. laid m (at + 1) (b ∷ [])) (laid-one xs at a h0) ∙ laid-on xs (a ∷ []) (b ∷ []) at l in
+    laid-one (set xs at a) (at + 1) b h1 ∙ ap (λ m. laid m (at + 1) (b ∷ [])) (laid-one xs at a h0) ∙ laid-on xs (a ∷ []) (b ∷ []) at l in
     laid-part (set (set xs at a) (at + 1) b) ys (at + 2) n e ∙ ap (λ m. laid m (at + 2) ys) two ∙ laid-on xs (a ∷ b ∷ []) ys at l
 
 pub entry-is : (k : Kind) (ls : List ℤ) → kind-number k ∷ pos (length ls) ∷ ls ≡ entry-numbers (entry-of k ls)

@@ -27,6 +27,7 @@ grew-more u v w xs ys zs g h =
     let b : v ≤ w = h .longer in
     let e : v + (w - v) ≡ w = omega arith in
     record {
-        longer = omega arith;
-        written = sym (take-take u v zs a) ∙ ap (take u) (h .written) ∙ take-take u v ys a ∙ g .written;
-        behind = h .behind ∙ sym (ap (λ n. drop n ys) e) ∙ sym (drop-drop (w - v) v ys) ∙ ap (drop (w - v)) (g .behind) ∙ drop-drop (w - v) v xs ∙ ap (λ n. drop n xs) e }
+      longer = omega arith;
+      written = sym (take-take u v zs a) ∙ ap (take u) (h .written) ∙ take-take u v ys a ∙ g .written;
+      behind = h .behind ∙ sym (ap (λ n. drop n ys) e) ∙ sym (drop-drop (w - v) v ys) ∙ ap (drop (w - v)) (g .behind) ∙ drop-drop (w - v) v xs ∙ ap (λ n. drop n xs) e;
+    }

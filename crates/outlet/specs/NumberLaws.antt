@@ -39,8 +39,10 @@ numbers-told (learnt ls ∷ es) (learnt ks ∷ fs) h =
 
 pub number-laws : OutletLaws HoldsNumbers KeepsNumbers
 number-laws = record {
-    one-list = λ o es fs m n. numbers-told es fs (sym (m .held) ∙ n .held);
-    keeps-none = λ o. record { same = refl; grew = grew-none (o .used) (o .cells .now) };
-    keeps-more = λ o p q k l. record {
-        same = l .same ∙ k .same;
-        grew = grew-more (o .used) (p .used) (q .used) (o .cells .now) (p .cells .now) (q .cells .now) (k .grew) (l .grew) } }
+  one-list = λ o es fs m n. numbers-told es fs (sym (m .held) ∙ n .held);
+  keeps-none = λ o. record { same = refl; grew = grew-none (o .used) (o .cells .now) };
+  keeps-more = λ o p q k l. record {
+    same = l .same ∙ k .same;
+    grew = grew-more (o .used) (p .used) (q .used) (o .cells .now) (p .cells .now) (q .cells .now) (k .grew) (l .grew);
+  };
+}

@@ -60,7 +60,11 @@ fn place<T: Copy>(cells: &mut [T], n: usize, x: T) -> bool
 fn item_behind<T: Copy>(cells: &[T], from: usize, i: usize) -> Option<T>
     ensures { λ r. ⌜ BySome r (length (drop from (now (cells .entry))) ≤ i) (λ x. (i < length (drop from (now (cells .entry)))) × ((d : T) → x ≡ getD (drop from (now (cells .entry))) i d)) ⌝ }
 {
-    if i < cells.len().saturating_sub(from) { Some(item(cells, from + i)) } else { None }
+    if i < cells.len().saturating_sub(from) {
+        Some(item(cells, from + i))
+    } else {
+        None
+    }
 }
 
 fn write_behind<T: Copy>(cells: &mut [T], from: usize, i: usize, x: T)
@@ -178,7 +182,11 @@ impl<'a, T: Copy> Stack<'a, T> {
         ensures { λ r. ⌜ BySome r (length (items (now (self .entry))) ≤ i) (λ x. (i < length (items (now (self .entry)))) × ((d : T) → x ≡ getD (items (now (self .entry))) i d)) ⌝ }
     {
         let items = self.as_slice();
-        if i < items.len() { Some(item(items, i)) } else { None }
+        if i < items.len() {
+            Some(item(items, i))
+        } else {
+            None
+        }
     }
 
     // How many places are left; they are scratch for whoever has the stack.

@@ -91,5 +91,5 @@ module _ (o : TextOutlet) (es : List Entry) (m : HoldsText o es) where
       let n = of-kind k (o .cubes) (o .learnt) in
       let t : ltb n (2 ^ 64 - 1) ≡ true = lt-ltb n (2 ^ 64 - 1) (omega arith) in
       let e : length (text (es ++ entry-of k ls ∷ [])) ≡ o .used + length (line k (n + 1) ls) =
-          ap length (sym (text-next k ls)) ∙ length-append (text es) (line k (n + 1) ls) ∙ ap (λ x. x + length (line k (n + 1) ls)) (sym u) in
+      ap length (sym (text-next k ls)) ∙ length-append (text es) (line k (n + 1) ls) ∙ ap (λ x. x + length (line k (n + 1) ls)) (sym u) in
       rw t (ap (λ x. leb x (length (o .bytes .now))) e)

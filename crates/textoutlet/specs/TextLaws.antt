@@ -7,8 +7,10 @@ use Rattle.textoutlet.specs.TextHeld.{HoldsText, KeepsText}
 
 pub text-laws : OutletLaws HoldsText KeepsText
 text-laws = record {
-    one-list = λ o es fs m n. text-told es fs (m .narrow) (n .narrow) (sym (m .held) ∙ n .held);
-    keeps-none = λ o. record { same = refl; grew = grew-none (o .used) (o .bytes .now) };
-    keeps-more = λ o p q k l. record {
-        same = l .same ∙ k .same;
-        grew = grew-more (o .used) (p .used) (q .used) (o .bytes .now) (p .bytes .now) (q .bytes .now) (k .grew) (l .grew) } }
+  one-list = λ o es fs m n. text-told es fs (m .narrow) (n .narrow) (sym (m .held) ∙ n .held);
+  keeps-none = λ o. record { same = refl; grew = grew-none (o .used) (o .bytes .now) };
+  keeps-more = λ o p q k l. record {
+    same = l .same ∙ k .same;
+    grew = grew-more (o .used) (p .used) (q .used) (o .bytes .now) (p .bytes .now) (q .bytes .now) (k .grew) (l .grew);
+  };
+}

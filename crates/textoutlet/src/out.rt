@@ -43,7 +43,12 @@ impl<'a> TextOutlet<'a> {
         ensures memory { λ r. ⌜ (r .used ≡ 0) × (r .bytes .now ≡ now (bytes .entry)) ⌝ }
         ensures same { λ r. ⌜ name (r .bytes) ≡ name (bytes .entry) ⌝ }
     {
-        TextOutlet { bytes, used: 0, cubes: 0, learnt: 0 }
+        TextOutlet {
+            bytes,
+            used: 0,
+            cubes: 0,
+            learnt: 0,
+        }
     }
 
     // The text: exactly the lines of the entries, which no other list of entries has.

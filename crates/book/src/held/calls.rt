@@ -61,7 +61,10 @@ impl Book {
     pub fn new() -> Book
         ensures { λ r. ⌜ marks-of r ≡ [] ⌝ }
     {
-        Book { marks: [Mark::Waiting; 4096], count: 0 }
+        Book {
+            marks: [Mark::Waiting; 4096],
+            count: 0,
+        }
     }
 
     // The state of a cube; none where there is no such cube.
@@ -118,7 +121,10 @@ impl Book {
         ensures free { λ _. ⌜ free-rows (now (self .exit)) ≡ free-rows (now (self .entry)) ⌝ }
     {
         match self.act(cube, Event::Lend) {
-            Some(_) => Ok(Loan { cube, settled: false }),
+            Some(_) => Ok(Loan {
+                cube,
+                settled: false,
+            }),
             None => Err(Refusal::NotWaiting),
         }
     }

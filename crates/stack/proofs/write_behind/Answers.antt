@@ -12,8 +12,9 @@ returns-then-i-saturating-sub g c =
     let w = c .write .ensures in
     let k : n ≤ n + c .args .i = omega arith in
     record {
-        behind = ap (drop n) w ∙ drop-set-add n xs (c .args .i) (c .args .x);
-        front = ap (take n) w ∙ take-set-le n xs (n + c .args .i) (c .args .x) k }
+      behind = ap (drop n) w ∙ drop-set-add n xs (c .args .i) (c .args .x);
+      front = ap (take n) w ∙ take-set-le n xs (n + c .args .i) (c .args .x) k;
+    }
 
 pub returns-else-i-saturating-sub : need.returns-else-i-saturating-sub
 returns-else-i-saturating-sub g c =

@@ -29,8 +29,10 @@ put-byte-requires-else-n-lt10 t c κs =
 pub returns-then-n-lt10 : need.returns-then-n-lt10
 returns-then-n-lt10 t c =
     let d = decimal-digit (c .args .n) (c .if-n-lt10 .taken) in
-    record { end = c .put-byte .ensures .end ∙ ap (λ k. c .args .at + k) (sym (one (c .args .n) (c .if-n-lt10 .taken)));
-             memory = c .put-byte .ensures .memory ∙ ap (laid (c .args .bytes .now) (c .args .at)) (sym d) }
+    record {
+      end = c .put-byte .ensures .end ∙ ap (λ k. c .args .at + k) (sym (one (c .args .n) (c .if-n-lt10 .taken)));
+      memory = c .put-byte .ensures .memory ∙ ap (laid (c .args .bytes .now) (c .args .at)) (sym d);
+    }
 
 pub returns-else-n-lt10 : need.returns-else-n-lt10
 returns-else-n-lt10 t c =
@@ -38,7 +40,9 @@ returns-else-n-lt10 t c =
     let d = decimal-step (c .args .n) (c .if-n-lt10 .left) f in
     let e = more (c .args .n) (c .if-n-lt10 .left) f in
     let h : c .args .at ≤ length (c .args .bytes .now) = omega arith in
-    record { end = omega (arith, c .put-byte-else-n-lt10 .ensures .end, c .put-decimal-k .ensures .end, e);
-             memory = laid-then (c .args .bytes .now) (c .put-decimal-k .last .bytes) (c .put-byte-else-n-lt10 .last .bytes) (decimal (c .args .n / 10)) ((48 + c .args .n % 10) ∷ [])
-                    (c .args .at) (c .put-decimal-k .result) h (c .put-decimal-k .ensures .memory) (c .put-decimal-k .ensures .end) (c .put-byte-else-n-lt10 .ensures .memory)
-                ∙ ap (laid (c .args .bytes .now) (c .args .at)) (sym d) }
+    record {
+      end = omega (arith, c .put-byte-else-n-lt10 .ensures .end, c .put-decimal-k .ensures .end, e);
+      memory = laid-then (c .args .bytes .now) (c .put-decimal-k .last .bytes) (c .put-byte-else-n-lt10 .last .bytes) (decimal (c .args .n / 10)) ((48 + c .args .n % 10) ∷ [])
+          (c .args .at) (c .put-decimal-k .result) h (c .put-decimal-k .ensures .memory) (c .put-decimal-k .ensures .end) (c .put-byte-else-n-lt10 .ensures .memory)
+          ∙ ap (laid (c .args .bytes .now) (c .args .at)) (sym d);
+    }

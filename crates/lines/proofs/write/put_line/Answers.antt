@@ -44,6 +44,8 @@ returns c =
     let b4 = laid-then xs (c .put-decimal-c .last .bytes) (c .put-byte-d .last .bytes) p3 (44 ∷ []) at (c .put-decimal-c .result) h b3 (omega arith) (c .put-byte-d .ensures .memory) in
     let b5 = laid-then xs (c .put-byte-d .last .bytes) (c .put-parted-e .last .bytes) p4 (parted ls) at (c .put-byte-d .result) h b4 (omega arith) (c .put-parted-e .ensures .memory) in
     let b6 = laid-then xs (c .put-parted-e .last .bytes) (c .put-byte .last .bytes) p5 (10 ∷ []) at (c .put-parted-e .result) h b5 (omega arith) (c .put-byte .ensures .memory) in
-    record { end = omega (arith, e);
-             memory = b6 ∙ ap (laid xs at) (line-joined x (c .args .kind) n ls (c .letter-of .ensures));
-             narrow = c .put-parted-e .ensures .narrow }
+    record {
+      end = omega (arith, e);
+      memory = b6 ∙ ap (laid xs at) (line-joined x (c .args .kind) n ls (c .letter-of .ensures));
+      narrow = c .put-parted-e .ensures .narrow;
+    }

@@ -37,9 +37,11 @@ returns-in-empty c =
     let ls = c .args .lits .now in
     let z : length ls ≡ 0 = search needs in
     let e : parted ls ≡ [] = ap parted (nil-from-length ls z) in
-    record { end = omega (arith, ap length e);
-             memory = sym (laid-nothing (c .args .bytes .now) (c .args .at)) ∙ ap (laid (c .args .bytes .now) (c .args .at)) (sym e);
-             narrow = subst (All Narrow) (sym (nil-from-length ls z)) tt }
+    record {
+      end = omega (arith, ap length e);
+      memory = sym (laid-nothing (c .args .bytes .now) (c .args .at)) ∙ ap (laid (c .args .bytes .now) (c .args .at)) (sym e);
+      narrow = subst (All Narrow) (sym (nil-from-length ls z)) tt;
+    }
 
 pub returns-in-len1-up : need.returns-in-len1-up
 returns-in-len1-up c =
@@ -50,8 +52,10 @@ returns-in-len1-up c =
     let q = simp k at (c .put-signed-k .ensures) in
     let w : SFits w32 (getD ls 0 (pos 0)) = search needs in
     let b : c .args .at ≤ length (c .args .bytes .now) = omega (arith, c .pre) in
-    record { end = omega (arith, parted-long ls h, q .end, c .put-spaced .ensures .end);
-             memory = laid-then (c .args .bytes .now) (c .put-signed-k .last .bytes) (c .put-spaced .last .bytes) (signed (getD ls 0 (pos 0))) rest
-                    (c .args .at) (c .put-signed-k .result) b (q .memory) (q .end) (c .put-spaced .ensures .memory)
-                ∙ ap (laid (c .args .bytes .now) (c .args .at)) (sym (parted-split ls h));
-             narrow = subst (All Narrow) (sym (first-rest ls (pos 0) h)) (w .sfits, c .put-spaced .ensures .narrow) }
+    record {
+      end = omega (arith, parted-long ls h, q .end, c .put-spaced .ensures .end);
+      memory = laid-then (c .args .bytes .now) (c .put-signed-k .last .bytes) (c .put-spaced .last .bytes) (signed (getD ls 0 (pos 0))) rest
+          (c .args .at) (c .put-signed-k .result) b (q .memory) (q .end) (c .put-spaced .ensures .memory)
+          ∙ ap (laid (c .args .bytes .now) (c .args .at)) (sym (parted-split ls h));
+      narrow = subst (All Narrow) (sym (first-rest ls (pos 0) h)) (w .sfits, c .put-spaced .ensures .narrow);
+    }

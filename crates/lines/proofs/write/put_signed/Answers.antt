@@ -23,7 +23,9 @@ returns-then-z-lt0 c =
     let s : signed z ≡ 45 ∷ decimal (c .unsigned-abs .result) = minus z m ∙ ap (λ n. 45 ∷ decimal n) (sym a) in
     let n : length (signed z) ≡ length (decimal (c .unsigned-abs .result)) + 1 = ap length s ∙ omega arith in
     let h : c .args .at ≤ length (c .args .bytes .now) = omega arith in
-    record { end = omega (arith, c .put-decimal .ensures .end, c .put-byte-k .ensures .end, n);
-             memory = laid-then (c .args .bytes .now) (c .put-byte-k .last .bytes) (c .put-decimal .last .bytes) (45 ∷ []) (decimal (c .unsigned-abs .result))
-                    (c .args .at) (c .put-byte-k .result) h (c .put-byte-k .ensures .memory) (c .put-byte-k .ensures .end) (c .put-decimal .ensures .memory)
-                ∙ ap (laid (c .args .bytes .now) (c .args .at)) (sym s) }
+    record {
+      end = omega (arith, c .put-decimal .ensures .end, c .put-byte-k .ensures .end, n);
+      memory = laid-then (c .args .bytes .now) (c .put-byte-k .last .bytes) (c .put-decimal .last .bytes) (45 ∷ []) (decimal (c .unsigned-abs .result))
+          (c .args .at) (c .put-byte-k .result) h (c .put-byte-k .ensures .memory) (c .put-byte-k .ensures .end) (c .put-decimal .ensures .memory)
+          ∙ ap (laid (c .args .bytes .now) (c .args .at)) (sym s);
+    }

@@ -40,17 +40,20 @@ loop-l-again c =
     let q = simp k at (c .put-signed-k .ensures) in
     let h : c .loop-l .k ≤ length old = omega (arith, c .loop-l .inv .0) in
     let f : c .put-signed-k .last .bytes ≡ laid old (c .loop-l .k) (32 ∷ signed z) =
-        laid-then old (c .put-byte-k .last .bytes) (c .put-signed-k .last .bytes) (32 ∷ []) (signed z) (c .loop-l .k) (c .put-byte-k .result) h
-            (c .put-byte-k .ensures .memory) (c .put-byte-k .ensures .end) (q .memory) in
-    let r : c .put-signed-k .result ≡ c .loop-l .k + length (32 ∷ signed z) = omega (arith, c .put-byte-k .ensures .end, q .end) in
-    (omega (arith, c .loop-l .inv .0, c .put-byte-k .ensures .end, q .end, e),
-     laid-then old (c .put-signed-k .last .bytes) (laid (c .put-signed-k .last .bytes) (c .put-signed-k .result) rest) (32 ∷ signed z) rest (c .loop-l .k) (c .put-signed-k .result) h f r refl
-     ∙ ap (laid old (c .loop-l .k)) (sym (spaced-next ls i (c .loop-l-test .taken))) ∙ c .loop-l .inv .1,
-     all-more Narrow ls i (pos 0) (c .loop-l-test .taken) (c .loop-l .inv .2) (w .sfits))
+    laid-then old (c .put-byte-k .last .bytes) (c .put-signed-k .last .bytes) (32 ∷ []) (signed z) (c .loop-l .k) (c .put-byte-k .result) h
+    (c .put-byte-k .ensures .memory) (c .put-byte-k .ensures .end) (q .memory) in
+    let r : c .put-signed-k .result ≡ c .loop-l .k + length (32 ∷ signed z) = omega (arith, c .put-byte-k .ensures .end, q .end) in (
+      omega (arith, c .loop-l .inv .0, c .put-byte-k .ensures .end, q .end, e),
+      laid-then old (c .put-signed-k .last .bytes) (laid (c .put-signed-k .last .bytes) (c .put-signed-k .result) rest) (32 ∷ signed z) rest (c .loop-l .k) (c .put-signed-k .result) h f r refl
+          ∙ ap (laid old (c .loop-l .k)) (sym (spaced-next ls i (c .loop-l-test .taken))) ∙ c .loop-l .inv .1,
+      all-more Narrow ls i (pos 0) (c .loop-l-test .taken) (c .loop-l .inv .2) (w .sfits),
+    )
 
 pub returns : need.returns
 returns c =
     let z = at-drop-all spaced (c .args .lits .now) (c .loop-l .l-index) (c .loop-l-test .left) in
-    record { end = omega (arith, c .loop-l .inv .0, ap length z);
-             memory = sym (laid-nothing (c .loop-l .bytes) (c .loop-l .k)) ∙ ap (laid (c .loop-l .bytes) (c .loop-l .k)) (sym z) ∙ c .loop-l .inv .1;
-             narrow = subst (All Narrow) (take-all (c .loop-l .l-index) (c .args .lits .now) (c .loop-l-test .left)) (c .loop-l .inv .2) }
+    record {
+      end = omega (arith, c .loop-l .inv .0, ap length z);
+      memory = sym (laid-nothing (c .loop-l .bytes) (c .loop-l .k)) ∙ ap (laid (c .loop-l .bytes) (c .loop-l .k)) (sym z) ∙ c .loop-l .inv .1;
+      narrow = subst (All Narrow) (take-all (c .loop-l .l-index) (c .args .lits .now) (c .loop-l-test .left)) (c .loop-l .inv .2);
+    }

@@ -18,4 +18,4 @@ returns c =
     let k : toZ w32 (ofZ w32 (c .number-of .result)) ≡ c .number-of .result = search needs in
     let m : toZ w32 (length ls) ≡ pos (length ls) = search needs in
     simp (k ∙ c .number-of .ensures, m, c .copy-from-slice .ensures .after)
-      (written (c .args .cells .now) ls (c .args .at) (c .args .at + 2 + length ls - (c .args .at + 2)) (kind-number (c .args .kind)) (pos (length ls)) h e)
+    (written (c .args .cells .now) ls (c .args .at) (c .args .at + 2 + length ls - (c .args .at + 2)) (kind-number (c .args .kind)) (pos (length ls)) h e)

@@ -11,7 +11,8 @@ returns g c =
     let e : s .len ≡ (s .len - 1) + 1 = omega arith in
     let h : s .len - 1 < length (s .cells .now) = omega arith in
     record {
-        cases = (ap (λ n. take n (s .cells .now)) e ∙ take-more (s .cells .now) (s .len - 1) (c .index-self-top .result) h, e);
-        whole = λ w. omega arith;
-        memory = refl;
-        same = refl }
+      cases = (ap (λ n. take n (s .cells .now)) e ∙ take-more (s .cells .now) (s .len - 1) (c .index-self-top .result) h, e);
+      whole = λ w. omega arith;
+      memory = refl;
+      same = refl;
+    }

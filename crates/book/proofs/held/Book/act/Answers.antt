@@ -19,6 +19,7 @@ returns c =
     let t = length-take-le (b .count) (b .marks) l in
     let i : c .args .cube - 1 < b .count = omega (arith, k .0, k .1, t) in
     record {
-        value = c .in-Some-moved .ensures tt ∙ ap (λ o. moved-from o (c .args .event)) e;
-        marks = take-set-lt (b .count) (b .marks) (c .args .cube - 1) (c .in-Some-moved .next) i;
-        free = drop-set-lt (b .count) (b .marks) (c .args .cube - 1) (c .in-Some-moved .next) i }
+      value = c .in-Some-moved .ensures tt ∙ ap (λ o. moved-from o (c .args .event)) e;
+      marks = take-set-lt (b .count) (b .marks) (c .args .cube - 1) (c .in-Some-moved .next) i;
+      free = drop-set-lt (b .count) (b .marks) (c .args .cube - 1) (c .in-Some-moved .next) i;
+    }

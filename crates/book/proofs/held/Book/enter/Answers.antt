@@ -23,6 +23,7 @@ returns c =
     let l : b .count < b .count + 1 = omega arith in
     let q : ltb (length (take (b .count) ms)) 4096 ≡ true = lt-ltb (length (take (b .count) ms)) 4096 (omega arith) in
     record {
-        value = rw (q, t);
-        marks = rw q (take-more-set ms (b .count) Waiting k);
-        free = rw q (drop-set-lt (b .count + 1) ms (b .count) Waiting l ∙ sym (drop-drop 1 (b .count) ms)) }
+      value = rw (q, t);
+      marks = rw q (take-more-set ms (b .count) Waiting k);
+      free = rw q (drop-set-lt (b .count + 1) ms (b .count) Waiting l ∙ sym (drop-drop 1 (b .count) ms));
+    }

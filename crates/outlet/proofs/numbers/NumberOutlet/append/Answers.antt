@@ -29,6 +29,8 @@ returns c =
     record {
       entries = λ es m. record {
         within = omega (arith, long);
-        held = laid-held cells ws after (o .used) n u a w ∙ ap (λ l. l ++ ws) (m .held) ∙ ap (λ l. numbers es ++ l) (entry-is k ls) ∙ sym (numbers-push es (entry-of k ls)) };
+        held = laid-held cells ws after (o .used) n u a w ∙ ap (λ l. l ++ ws) (m .held) ∙ ap (λ l. numbers es ++ l) (entry-is k ls) ∙ sym (numbers-push es (entry-of k ls));
+      };
       size = long;
-      kept = record { same = refl; grew = laid-grew cells ws after (o .used) n u a w } }
+      kept = record { same = refl; grew = laid-grew cells ws after (o .used) n u a w };
+    }

@@ -6,5 +6,6 @@ pub returns : need.returns
 returns c =
     let o = c .args .self .now in
     record {
-        value = c .fits-in .ensures;
-        fits = λ k es m. c .fits-in .ensures ∙ sym (fit-is (o .cells .now) (o .used) es k (c .args .lits .now) (m .within) (m .held)) }
+      value = c .fits-in .ensures;
+      fits = λ k es m. c .fits-in .ensures ∙ sym (fit-is (o .cells .now) (o .used) es k (c .args .lits .now) (m .within) (m .held));
+    }

@@ -28,11 +28,13 @@ returns c =
     let long : length after ≡ length bytes = ap length w ∙ laid-long bytes ws (o .used) room in
     let more = c .counted-cubes .ensures in
     record {
-        entries = λ es m. record {
-            within = omega (arith, a, long, room);
-            held = laid-held bytes ws after (o .used) (c .put-line-self .result) u a w ∙ ap (λ x. x ++ ws) (m .held) ∙ text-next o es m k ls;
-            cubes = more .0 ∙ ap (λ x. x + of-kind k 1 0) (m .cubes) ∙ sym (cubes-push es k ls);
-            learnt = more .1 ∙ ap (λ x. x + of-kind k 0 1) (m .learnt) ∙ sym (learnt-push es k ls);
-            narrow = narrow-push es k ls (m .narrow) (c .put-line-self .ensures .narrow) };
-        size = long;
-        kept = record { same = refl; grew = laid-grew bytes ws after (o .used) (c .put-line-self .result) u a w } }
+      entries = λ es m. record {
+        within = omega (arith, a, long, room);
+        held = laid-held bytes ws after (o .used) (c .put-line-self .result) u a w ∙ ap (λ x. x ++ ws) (m .held) ∙ text-next o es m k ls;
+        cubes = more .0 ∙ ap (λ x. x + of-kind k 1 0) (m .cubes) ∙ sym (cubes-push es k ls);
+        learnt = more .1 ∙ ap (λ x. x + of-kind k 0 1) (m .learnt) ∙ sym (learnt-push es k ls);
+        narrow = narrow-push es k ls (m .narrow) (c .put-line-self .ensures .narrow);
+      };
+      size = long;
+      kept = record { same = refl; grew = laid-grew bytes ws after (o .used) (c .put-line-self .result) u a w };
+    }

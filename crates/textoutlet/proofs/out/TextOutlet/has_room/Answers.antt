@@ -32,5 +32,5 @@ returns c =
     let u : o .used ≤ size = search needs in
     let s : size < 2 ^ 64 = search needs in
     let v : c .line-fits .result ≡ room-for o k ls = rw t (c .line-fits .ensures k ∙ ap (λ x. leb (length (line k (x + 1) ls)) (size - o .used)) e
-        ∙ same-leb (length (line k (n + 1) ls)) (size - o .used) (o .used + length (line k (n + 1) ls)) size (λ q. omega arith) (λ q. omega arith)) in
+    ∙ same-leb (length (line k (n + 1) ls)) (size - o .used) (o .used + length (line k (n + 1) ls)) size (λ q. omega arith) (λ q. omega arith)) in
     record { value = v; fits = λ es m. v ∙ sym (fit-is o es m s k ls) }
