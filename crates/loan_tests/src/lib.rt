@@ -1,0 +1,3 @@
+//! Tests of the book of loans.
+#[cfg(test)]
+mod books;

@@ -1,0 +1,4 @@
+pub mod Entries
+pub mod Memory
+pub mod Numbers
+pub mod NumberLaws

@@ -1,0 +1,2 @@
+pub mod TextHeld
+pub mod TextLaws
