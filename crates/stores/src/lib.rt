@@ -1,0 +1,16 @@
+//! A store of rules, its walks over all rules, and two stores joined.
+mod look;
+mod store;
+mod weight;
+
+pub use look::Find;
+pub use look::FindDebug;
+pub use look::FindPartialEq;
+pub use look::Look;
+pub use look::LookDebug;
+pub use look::LookPartialEq;
+pub use look::Refusal;
+pub use look::RefusalDebug;
+pub use look::RefusalPartialEq;
+pub use store::Rules;
+pub use weight::gain_of;
