@@ -1,8 +1,14 @@
 //! A store of rules, its walks over all rules, and two stores joined.
+mod bylook;
+mod joined;
 mod look;
 mod store;
 mod weight;
 
+pub use bylook::ByLook;
+pub use bylook::ByLookRules;
+pub use joined::Joined;
+pub use joined::JoinedRules;
 pub use look::Find;
 pub use look::FindDebug;
 pub use look::FindPartialEq;
