@@ -1,2 +1,3 @@
 pub mod Keeps
+pub mod Tables
 pub mod Spelt
