@@ -53,9 +53,16 @@ fault-from n seen at (z ∷ zs) =
     (cond (has-var seen z) (some (14, at))
     (fault-from n (seen ++ (z ∷ [])) (at + 1) zs)))
 
--- counts beyond the limits come before all others
+abbrev pub rule-fault : ℕ → List ℤ → Option (ℕ × ℕ)
+rule-fault n t = fault-from n [] 0 t
+
+-- too many variables, or too many rules
+abbrev pub beyond : ℕ → List ℤ → Bool
+beyond n t = ltb 2048 n || ltb 16384 (ends t)
+
+-- what opening refuses: counts beyond the limits before all others
 abbrev pub open-fault : ℕ → List ℤ → Option (ℕ × ℕ)
-open-fault n t = cond (ltb 2048 n || ltb 16384 (ends t)) (some (19, 0)) (fault-from n [] 0 t)
+open-fault n t = cond (beyond n t) (some (19, 0)) (rule-fault n t)
 
 abbrev pub is-none : Option (ℕ × ℕ) → Bool
 is-none none = true

@@ -1,0 +1,5 @@
+pub mod Bytes
+pub mod Parity
+pub mod Rows
+pub mod Tallies
+pub mod Checking

@@ -1,0 +1,120 @@
+// A table of rules as a store, and the hand-out of a rule.
+ghost use mathlib.Core.Path.{_≡_};
+ghost use Prim.Native.Nat.{ℕ, _+_, _*_, _≤_};
+ghost use lib.Dec.{leb};
+ghost use mathlib.Core.Bool.{_&&_, true, false};
+ghost use denote.Ref.{now, ptr};
+ghost use Rattle.std.specs.Results.{Cases};
+ghost use Rattle.stores.specs.Numbers.{number-of};
+ghost use Rattle.meaning.specs.Listed.{listed, nth-rule};
+ghost use Rattle.meaning.specs.Tables.{parts, start-of};
+ghost use Rattle.tables.specs.Laws.{table-laws};
+use crate::scan::is_legal;
+use crate::scan::next_rule;
+use crate::scan::rule_at;
+use crate::table::Table;
+use stores::Find;
+use stores::Look;
+use stores::Refusal;
+use stores::Rules;
+use stores::gain_of;
+
+impl<'a> Table<'a> {
+    // The index at which a rule begins.
+    fn start(&self, rule: usize) -> usize
+        requires { ⌜ 1 ≤ rule ⌝ ∗ ⌜ rule ≤ now self .rules ⌝ }
+        ensures { λ r. ⌜ r ≡ start-of (parts (now (now (self .entry) .table))) rule ⌝ }
+    {
+        let mut at = 0;
+        for k in 1..rule {
+            at = next_rule(self.table, at);
+        }
+        at
+    }
+
+    // The literals of a rule, numbered from 1: that very part of the lent table.
+    pub fn rule(&self, rule: usize) -> Result<&'a [i32], Refusal>
+        ensures { λ r. ⌜ Cases r (λ s. ((leb 1 rule && leb rule (now (self .entry) .rules)) ≡ true) × (now s ≡ nth-rule (parts (now (now (self .entry) .table))) rule) × (ptr s ≡ (ptr (now (self .entry) .table) .0, ptr (now (self .entry) .table) .1 + start-of (parts (now (now (self .entry) .table))) rule * 4))) (λ e. ((leb 1 rule && leb rule (now (self .entry) .rules)) ≡ false) × (number-of e ≡ 18)) ⌝ }
+    {
+        if rule < 1 || rule > self.rules {
+            return Err(Refusal::Unfit);
+        }
+        let at = self.start(rule);
+        let end = next_rule(self.table, at) - 1;
+        Ok(&self.table[at..end])
+    }
+}
+
+pub impl<'a> Rules for Table<'a> as TableRules {
+    ghost means = { λ s. listed (s .kind) (s .vars) (parts (now (s .table))) };
+
+    ghost laws = { table-laws };
+
+    fn variables(&self) -> usize {
+        self.vars
+    }
+
+    fn rules(&self) -> usize {
+        self.rules
+    }
+
+    fn look(&self, rule: usize, partial: &[u8]) -> Result<Look, Refusal> {
+        if rule < 1 || rule > self.rules {
+            return Err(Refusal::Unfit);
+        }
+        if partial.len() != self.vars || !is_legal(partial) {
+            return Err(Refusal::Unfit);
+        }
+        Ok(self.seen(rule, partial))
+    }
+
+    fn seen(&self, rule: usize, partial: &[u8]) -> Look {
+        let (look, _next) = rule_at(self.kind, self.table, self.start(rule), partial);
+        look
+    }
+
+    fn lowest(&self, partial: &[u8]) -> Find {
+        let table = self.table;
+        let mut at = 0;
+        while at < table.len() {
+            let (look, next) = rule_at(self.kind, table, at, partial);
+            match look {
+                Look::Settled => {}
+                Look::Open(_) => {}
+                Look::Broken => return Find::Clash,
+                Look::Forces(l) => return Find::Force(l),
+            }
+            at = next;
+        }
+        Find::Nothing
+    }
+
+    fn gain(&self, before: &[u8], side: &[u8]) -> u32 {
+        let table = self.table;
+        let mut total: u32 = 0;
+        let mut at = 0;
+        while at < table.len() {
+            let (was, _same) = rule_at(self.kind, table, at, before);
+            let (is, next) = rule_at(self.kind, table, at, side);
+            total += gain_of(was, is);
+            at = next;
+        }
+        total
+    }
+
+    fn all_settled(&self, partial: &[u8]) -> bool {
+        let table = self.table;
+        let mut at = 0;
+        while at < table.len() {
+            let (look, next) = rule_at(self.kind, table, at, partial);
+            match look {
+                Look::Settled => {}
+                Look::Open(_) => return false,
+                Look::Broken => return false,
+                Look::Forces(_) => return false,
+            }
+            at = next;
+        }
+        true
+    }
+}
