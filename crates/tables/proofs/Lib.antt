@@ -3,3 +3,5 @@ pub mod Parity
 pub mod Rows
 pub mod Tallies
 pub mod Checking
+pub mod Places
+pub mod Lists

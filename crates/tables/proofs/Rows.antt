@@ -76,7 +76,7 @@ pub record First (n : ℕ) (u : List ℤ) (rest : List ℤ) : Type 0 where
   pub spelt : rest ≡ numbers (parts rest)
   pub short : suc (length (front u)) ≤ length u
 
-front-rule : (n : ℕ) (ls zs : List ℤ) → Each (Literal n) ls → front (ls ++ (pos 0 ∷ zs)) ≡ ls
+pub front-rule : (n : ℕ) (ls zs : List ℤ) → Each (Literal n) ls → front (ls ++ (pos 0 ∷ zs)) ≡ ls
 front-rule n [] zs h = refl
 front-rule n (l ∷ ls) zs h = ap (λ b. cond b [] (l ∷ front (ls ++ (pos 0 ∷ zs)))) (literal-lit n l (h .0)) ∙ ap (λ u. l ∷ u) (front-rule n ls zs (h .1))
 
@@ -88,7 +88,7 @@ has-rule (l ∷ ls) zs = or-on (is-end l) (has-rule ls zs)
     or-on true h = refl
     or-on false h = h
 
-drop-rule : (ls zs : List ℤ) → drop (suc (length ls)) (ls ++ (pos 0 ∷ zs)) ≡ zs
+pub drop-rule : (ls zs : List ℤ) → drop (suc (length ls)) (ls ++ (pos 0 ∷ zs)) ≡ zs
 drop-rule [] zs = refl
 drop-rule (l ∷ ls) zs = drop-rule ls zs
 
@@ -140,6 +140,12 @@ module _ {n : ℕ} {t : List ℤ} {at : ℕ} (w : Walking n t at) (l : at < leng
       let k = f .short in
       let j = length-drop at t in
       subst (Walking n t) (sym e) (record { fit = f .fit; spelt = f .spelt; within = omega arith })
+
+-- what a look at the rule there asks for
+pub ready : {n : ℕ} {t : List ℤ} {at : ℕ} → Walking n t at → at < length t → opens n t ≡ true → (p : List ℕ) → length p ≡ n → (has-end (drop at t) ≡ true) × (Each (Literal (length p)) (front (drop at t)) × (length p ≤ 2048))
+ready {n} {t} {at} w l o p e =
+    let few = opened-rules n t o .few-vars in
+    (walk-has w l, (subst (λ m. Each (Literal m) (front (drop at t))) (sym e) (walk-range w l), omega arith))
 
 pub parts-none : (t : List ℤ) (at : ℕ) → length t ≤ at → parts (drop at t) ≡ []
 parts-none t at h = at-drop-all parts t at h

@@ -10,6 +10,7 @@ ghost use Rattle.meaning.specs.Listed.{listed, nth-rule};
 ghost use Rattle.meaning.specs.Tables.{parts, start-of};
 ghost use Rattle.tables.specs.Laws.{table-laws};
 use crate::scan::is_legal;
+use crate::scan::literals_at;
 use crate::scan::next_rule;
 use crate::scan::rule_at;
 use crate::table::Table;
@@ -26,7 +27,7 @@ impl<'a> Table<'a> {
         ensures { λ r. ⌜ r ≡ start-of (parts (now (now (self .entry) .table))) rule ⌝ }
     {
         let mut at = 0;
-        for k in 1..rule {
+        for _k in 1..rule {
             at = next_rule(self.table, at);
         }
         at
@@ -39,9 +40,7 @@ impl<'a> Table<'a> {
         if rule < 1 || rule > self.rules {
             return Err(Refusal::Unfit);
         }
-        let at = self.start(rule);
-        let end = next_rule(self.table, at) - 1;
-        Ok(&self.table[at..end])
+        Ok(literals_at(self.table, self.start(rule)))
     }
 }
 

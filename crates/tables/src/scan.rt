@@ -1,10 +1,11 @@
 // A look at the rule that stands at an index of a table.
 ghost use mathlib.Core.Path.{_≡_};
 ghost use mathlib.Core.Bool.{true, cond};
-ghost use Prim.Native.Nat.{ℕ, suc, _+_, _<_, _≤_, _^_};
+ghost use Prim.Native.Nat.{ℕ, suc, _+_, _*_, _<_, _≤_, _^_};
 ghost use lib.ListN.{length, getD, drop};
 ghost use lib.IntN.{natAbs, negℤ};
 ghost use lib.Dec.{eqb};
+ghost use denote.Ref.{ptr};
 ghost use Rattle.rules.specs.Literals.{Literal, Each, place, side};
 ghost use Rattle.rules.specs.Rules.{true-count, is-odd};
 ghost use Rattle.stores.specs.Stores.{legal};
@@ -150,11 +151,22 @@ pub fn rule_at(kind: Kind, table: &[i32], at: usize, partial: &[u8]) -> (Look, u
 // The index after the rule that begins at an index.
 pub fn next_rule(table: &[i32], at: usize) -> usize
     requires { ⌜ has-end (drop at (now table)) ≡ true ⌝ }
-    ensures { λ r. ⌜ r ≡ next-of (now (table .entry)) at ⌝ }
+    ensures next { λ r. ⌜ r ≡ next-of (now (table .entry)) at ⌝ }
+    ensures within { λ r. ⌜ r ≤ length (now (table .entry)) ⌝ }
 {
     let mut i = at;
     while table[i] != 0 {
         i += 1;
     }
     i + 1
+}
+
+// The literals of the rule that begins at an index: that very part of the table.
+pub fn literals_at<'a>(table: &'a [i32], at: usize) -> &'a [i32]
+    requires { ⌜ has-end (drop at (now table)) ≡ true ⌝ }
+    ensures value { λ r. ⌜ now r ≡ front (drop at (now (table .entry))) ⌝ }
+    ensures place { λ r. ⌜ ptr r ≡ (ptr (table .entry) .0, ptr (table .entry) .1 + at * 4) ⌝ }
+{
+    let end = next_rule(table, at) - 1;
+    &table[at..end]
 }

@@ -1,5 +1,6 @@
 use mathlib.Core.Path.{_≡_, refl}
 use borrow.Author.Needs.{needs}
+use native.Mathlib.Omega.{arith}
 use lib.IntN.{ℤ, pos}
 use lib.ListN.{getD}
 use mir.Syntax.{w32}
@@ -19,4 +20,4 @@ pub returns : need.returns
 returns c =
     let z : ℤ = getD (c .args .table .now) (c .loop-i .i) (pos 0) in
     let f : SFits w32 z = search needs in
-    past-end (c .loop-i .inv) z refl (end-bits z f (c .loop-i-test .left))
+    record { next = past-end (c .loop-i .inv) z refl (end-bits z f (c .loop-i-test .left)); within = omega (arith, c .loop-i .inv .high) }
