@@ -2,20 +2,24 @@
 use mathlib.Core.Path.{_≡_, refl, sym, ap, subst, _∙_}
 use mathlib.Core.Bool.{Bool, true, false, cond, _&&_}
 use mathlib.Core.List.{List, [], _∷_}
+use mathlib.Core.Option.{Option, none, some}
 use Prim.Native.Nat.{ℕ, zero, suc, _+_, _-_, _≤_, _<_}
 use native.Mathlib.Omega.{arith}
 use lib.ListN.{length, getD}
 use lib.IntN.{ℤ}
-use lib.Dec.{eqb, leb}
-use Rattle.std.proofs.shelf.Tests.{le-leb, lt-leb, leb-true, leb-false, eq-eqb, and-from, and-parts}
+use lib.Dec.{eqb, leb, ltb}
+use Rattle.std.proofs.shelf.Tests.{le-leb, lt-leb, leb-true, leb-false, eq-eqb, and-from, and-parts, ltb-false, le-ltb}
 use Rattle.rules.specs.Literals.{Each, Full}
-use Rattle.rules.specs.Rules.{Rule, clause, odd, literals, holds, satisfies, Fits, clauses, odds}
+use Rattle.rules.specs.Rules.{Rule, clause, odd, literals, holds, satisfies, Fits, clauses, odds, numbers}
 use Rattle.stores.specs.Stores.{Store, Satisfies}
 use Rattle.stores.specs.Joins.{joinable, joins}
 use Rattle.meaning.specs.declared.Kind.{Kind}
 use Rattle.meaning.specs.declared.Kind.the-variants.{Clause, Odd}
 use Rattle.meaning.specs.Listed.{rule-of, nth-rule, listed}
-use Rattle.meaning.specs.Spelt.{Ruled, joined-rules, Means-rules}
+use Rattle.stores.specs.Joins.{join-fault}
+use Rattle.meaning.specs.Tables.{parts, ends, open-fault, opens, is-none, Holds-rules}
+use Rattle.meaning.specs.Spelt.{Ruled, joined-rules, Means-rules, Filled, or-fault, both-fault}
+use Rattle.meaning.proofs.Tables.{rules-open, ends-numbers, opened-count}
 
 -- ---- the clauses and the odd rules of a list
 pub both-lengths : (rs : List Rule) → length (clauses rs) + length (odds rs) ≡ length rs
@@ -103,3 +107,63 @@ module _ (n : ℕ) (rs : List Rule) (h : Ruled n rs) where
 
   pub joined-means : Means-rules (joined-rules n rs) n rs
   joined-means = record { sound = λ a s. (s .full, rules-satisfied a s); whole = λ a full s. record { full = full; rules = rules-at a s } }
+
+-- ---- the two tables of the rules
+module _ (n : ℕ) (rs : List Rule) (c o : List ℤ) (h : Filled n rs c o) where
+  clauses-held : Holds-rules n c (clauses rs)
+  clauses-held = let e = both-lengths rs in let f = h .ruled .few-rules in record { few-vars = h .ruled .few-vars; few-rules = omega arith; fit = clauses-fit n rs (h .ruled .fit); spelt = h .clauses-are }
+
+  odds-held : Holds-rules n o (odds rs)
+  odds-held = let e = both-lengths rs in let f = h .ruled .few-rules in record { few-vars = h .ruled .few-vars; few-rules = omega arith; fit = odds-fit n rs (h .ruled .fit); spelt = h .odds-are }
+
+  few-both : ltb 16384 (ends c + ends o) ≡ false
+  few-both =
+      let a = ap ends (h .clauses-are) ∙ ends-numbers n (clauses rs) (clauses-held .fit) in
+      let b = ap ends (h .odds-are) ∙ ends-numbers n (odds rs) (odds-held .fit) in
+      let e = both-lengths rs in
+      let f = h .ruled .few-rules in
+      le-ltb 16384 (ends c + ends o) (omega arith)
+
+  pub filled-open : both-fault n c o ≡ none
+  filled-open =
+      ap (λ u. or-fault u (or-fault (open-fault n o) (cond (ltb 16384 (ends c + ends o)) (some (19, 0)) none))) (rules-open n c (clauses rs) clauses-held .0)
+      ∙ ap (λ u. or-fault u (cond (ltb 16384 (ends c + ends o)) (some (19, 0)) none)) (rules-open n o (odds rs) odds-held .0)
+      ∙ ap (λ b. cond b (some (19, 0)) none) few-both
+
+  pub filled-mean : Means-rules (joins (listed Clause n (parts c)) (listed Odd n (parts o))) n rs
+  filled-mean =
+      subst (λ x. Means-rules (joins (listed Clause n x) (listed Odd n (parts o))) n rs) (sym (rules-open n c (clauses rs) clauses-held .1))
+        (subst (λ y. Means-rules (joins (listed Clause n (clauses rs)) (listed Odd n y)) n rs) (sym (rules-open n o (odds rs) odds-held .1)) (joined-means n rs (h .ruled)))
+
+-- ---- two tables that open may be joined
+or-none : (f g : Option (ℕ × ℕ)) → or-fault f g ≡ none → (f ≡ none) × (g ≡ none)
+or-none none g h = (refl, h)
+or-none (some x) g h = absurd (let z : _≡_ {A = ℕ} 0 1 = cc h in omega arith)
+
+not-beyond : (b : Bool) → _≡_ {A = Option (ℕ × ℕ)} (cond b (some (19, 0)) none) none → b ≡ false
+not-beyond true h = absurd (let z : _≡_ {A = ℕ} 0 1 = cc h in omega arith)
+not-beyond false h = refl
+
+pub both-open : (n : ℕ) (c o : List ℤ) → both-fault n c o ≡ none → (open-fault n c ≡ none) × (open-fault n o ≡ none) × (join-fault (listed Clause n (parts c)) (listed Odd n (parts o)) ≡ none)
+both-open n c o h =
+    let a = or-none (open-fault n c) _ h in
+    let b = or-none (open-fault n o) _ (a .1) in
+    let few = ltb-false 16384 (ends c + ends o) (not-beyond (ltb 16384 (ends c + ends o)) (b .1)) in
+    let x = opened-count n c (ap is-none (a .0)) in
+    let y = opened-count n o (ap is-none (b .0)) in
+    ( a .0, b .0
+    , ap (λ u. cond u none (some (19, 0))) (and-from (eqb n n) _ (eq-eqb n n refl) (le-leb (length (parts c) + length (parts o)) 16384 (omega arith))) )
+
+-- ---- the first fault of the two, as a check meets it
+pub fault-first : (n : ℕ) (c o : List ℤ) (x : ℕ × ℕ) → some x ≡ open-fault n c → some x ≡ both-fault n c o
+fault-first n c o x e = ap (λ u. or-fault u (or-fault (open-fault n o) (cond (ltb 16384 (ends c + ends o)) (some (19, 0)) none))) e
+
+fault-rest : (n : ℕ) (c o : List ℤ) (f : Option (ℕ × ℕ)) → none ≡ open-fault n c → f ≡ or-fault (open-fault n o) (cond (ltb 16384 (ends c + ends o)) (some (19, 0)) none) → f ≡ both-fault n c o
+fault-rest n c o f e h = h ∙ ap (λ u. or-fault u (or-fault (open-fault n o) (cond (ltb 16384 (ends c + ends o)) (some (19, 0)) none))) e
+
+pub fault-second : (n : ℕ) (c o : List ℤ) (x : ℕ × ℕ) → none ≡ open-fault n c → some x ≡ open-fault n o → some x ≡ both-fault n c o
+fault-second n c o x e f = fault-rest n c o (some x) e (ap (λ u. or-fault u (cond (ltb 16384 (ends c + ends o)) (some (19, 0)) none)) f)
+
+pub fault-third : (n : ℕ) (c o : List ℤ) (b : Bool) → none ≡ open-fault n c → none ≡ open-fault n o → ltb 16384 (ends c + ends o) ≡ b → cond b (some (19, 0)) none ≡ both-fault n c o
+fault-third n c o b e f h =
+    fault-rest n c o (cond b (some (19, 0)) none) e (ap (λ u. cond u (some (19, 0)) none) (sym h) ∙ ap (λ u. or-fault u (cond (ltb 16384 (ends c + ends o)) (some (19, 0)) none)) f)

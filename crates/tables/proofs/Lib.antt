@@ -5,3 +5,4 @@ pub mod Tallies
 pub mod Checking
 pub mod Places
 pub mod Lists
+pub mod Opened

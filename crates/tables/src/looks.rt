@@ -6,9 +6,9 @@ ghost use mathlib.Core.Bool.{_&&_, true, false};
 ghost use denote.Ref.{now, ptr};
 ghost use Rattle.std.specs.Results.{Cases};
 ghost use Rattle.stores.specs.Numbers.{number-of};
-ghost use Rattle.meaning.specs.Listed.{listed, nth-rule};
+ghost use Rattle.meaning.specs.Listed.{nth-rule};
 ghost use Rattle.meaning.specs.Tables.{parts, start-of};
-ghost use Rattle.tables.specs.Laws.{table-laws};
+ghost use Rattle.tables.specs.Laws.{table-store, table-laws};
 use crate::scan::is_legal;
 use crate::scan::literals_at;
 use crate::scan::next_rule;
@@ -45,7 +45,7 @@ impl<'a> Table<'a> {
 }
 
 pub impl<'a> Rules for Table<'a> as TableRules {
-    ghost means = { λ s. listed (s .kind) (s .vars) (parts (now (s .table))) };
+    ghost means = { table-store };
 
     ghost laws = { table-laws };
 
