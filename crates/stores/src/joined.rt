@@ -13,12 +13,12 @@ use rules::Fault;
 use rules::Reason;
 
 #[derive(Drop)]
-pub struct Joined<'a, F: Rules, G: Rules> {
+pub struct Joined<'a, 'b, F: Rules, G: Rules> {
     first: &'a F,
-    second: &'a G,
+    second: &'b G,
 }
 
-impl<'a, F: Rules, G: Rules> Joined<'a, F, G> {
+impl<'a, 'b, F: Rules, G: Rules> Joined<'a, 'b, F, G> {
     // Whether two stores may be joined: they have the same variables and not too many rules.
     fn fit(first: &F, second: &G) -> bool
         ensures { λ r. ⌜ r ≡ joinable (F·Rules .means (now (first .entry))) (G·Rules .means (now (second .entry))) ⌝ }
@@ -41,7 +41,7 @@ impl<'a, F: Rules, G: Rules> Joined<'a, F, G> {
     }
 
     // The two stores as one, once they have been checked.
-    pub fn join(first: &'a F, second: &'a G) -> Joined<'a, F, G>
+    pub fn join(first: &'a F, second: &'b G) -> Joined<'a, 'b, F, G>
         requires { ⌜ join-fault (F·Rules .means (now first)) (G·Rules .means (now second)) ≡ none ⌝ }
         ensures { λ r. ⌜ r .first ≡ first .entry ⌝ ∗ ⌜ r .second ≡ second .entry ⌝ }
     {
@@ -49,7 +49,7 @@ impl<'a, F: Rules, G: Rules> Joined<'a, F, G> {
     }
 }
 
-pub impl<'a, F: Rules, G: Rules> Rules for Joined<'a, F, G> as JoinedRules {
+pub impl<'a, 'b, F: Rules, G: Rules> Rules for Joined<'a, 'b, F, G> as JoinedRules {
     ghost means = { λ s. joins (F·Rules .means (now (s .first))) (G·Rules .means (now (s .second))) };
 
     ghost laws = { join-laws (F·Rules .laws) (G·Rules .laws) (λ s. now (s .first)) (λ s. now (s .second)) };
