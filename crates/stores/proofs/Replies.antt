@@ -16,7 +16,7 @@ use Rattle.stores.specs.declared.look.Look.the-variants.{Settled, Broken, Forc
 use Rattle.stores.specs.declared.look.Refusal.{Refusal}
 use Rattle.stores.specs.declared.look.Refusal.the-variants.{Unfit}
 use Rattle.stores.specs.Numbers.{answer-of, reply-of}
-use Rattle.stores.specs.Stores.{Store, Means, Keeps, legal, answers, look-reply, Said}
+use Rattle.stores.specs.Stores.{Store, Means, Keeps, legal, is-partial, answers, look-reply, Said}
 
 -- ---- a partial that fits is not refused
 pub legal-from : (p : List ℕ) → ((i : ℕ) → getD p i 0 ≤ 2) → legal p ≡ true
@@ -37,6 +37,10 @@ answered s r p low high q =
 pub replied : (s : Store) (r : ℕ) (p : List ℕ) → 1 ≤ r → r ≤ s .m → Partial (s .n) p → look-reply s r p ≡ answer-of (s .look r p)
 replied s r p low high q = ap (λ b. cond b (answer-of (s .look r p)) (18, pos 0)) (answered s r p low high q)
 
+-- bytes that pass the test are a partial assignment
+pub partial-from : (n : ℕ) (p : List ℕ) → is-partial n p ≡ true → Partial n p
+partial-from n p h = let c = and-parts (eqb (length p) n) (legal p) h in record { long = eqb-true (length p) n (c .0); bytes = legal-bytes p (c .1) }
+
 -- what an answered look asks for
 pub record Fit (s : Store) (r : ℕ) (p : List ℕ) : Type 0 where
   pub low : 1 ≤ r
@@ -47,8 +51,7 @@ pub fit-from : (s : Store) (r : ℕ) (p : List ℕ) → answers s r p ≡ true �
 fit-from s r p h =
     let a = and-parts (leb 1 r) _ h in
     let b = and-parts (leb r (s .m)) _ (a .1) in
-    let c = and-parts (eqb (length p) (s .n)) (legal p) (b .1) in
-    record { low = leb-true 1 r (a .0); high = leb-true r (s .m) (b .0); fits = record { long = eqb-true (length p) (s .n) (c .0); bytes = legal-bytes p (c .1) } }
+    record { low = leb-true 1 r (a .0); high = leb-true r (s .m) (b .0); fits = partial-from (s .n) p (b .1) }
 
 -- ---- an answer is known by its number and its value
 pub same-answer : (v w : Look) → answer-of v ≡ answer-of w → v ≡ w

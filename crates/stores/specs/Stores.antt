@@ -55,9 +55,13 @@ abbrev pub legal : List ℕ → Bool
 legal [] = true
 legal (b ∷ p) = leb b 2 && legal p
 
--- whether a look at the rule r under p is answered: the rule is there, and p has a byte from 0 to 2 for each variable
+-- whether bytes are a partial assignment of n variables, as a test
+abbrev pub is-partial : ℕ → List ℕ → Bool
+is-partial n p = eqb (length p) n && legal p
+
+-- whether a look at the rule r under p is answered: the rule is there, and p is a partial assignment
 abbrev pub answers : Store → ℕ → List ℕ → Bool
-answers s r p = leb 1 r && (leb r (s .m) && (eqb (length p) (s .n) && legal p))
+answers s r p = leb 1 r && (leb r (s .m) && is-partial (s .n) p)
 
 -- the reply to a look, as number and value: the store's answer, or 18
 abbrev pub look-reply : Store → ℕ → List ℕ → ℕ × ℤ

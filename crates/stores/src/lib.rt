@@ -2,6 +2,7 @@
 mod bylook;
 mod joined;
 mod look;
+mod partial;
 mod store;
 mod weight;
 
@@ -18,5 +19,6 @@ pub use look::LookPartialEq;
 pub use look::Refusal;
 pub use look::RefusalDebug;
 pub use look::RefusalPartialEq;
+pub use partial::is_partial;
 pub use store::Rules;
 pub use weight::gain_of;

@@ -1,4 +1,3 @@
-pub mod Bytes
 pub mod Parity
 pub mod Rows
 pub mod Tallies

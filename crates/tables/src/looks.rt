@@ -9,7 +9,6 @@ ghost use Rattle.stores.specs.Numbers.{number-of};
 ghost use Rattle.meaning.specs.Listed.{nth-rule};
 ghost use Rattle.meaning.specs.Tables.{parts, start-of};
 ghost use Rattle.tables.specs.Laws.{table-store, table-laws};
-use crate::scan::is_legal;
 use crate::scan::literals_at;
 use crate::scan::next_rule;
 use crate::scan::rule_at;
@@ -19,6 +18,7 @@ use stores::Look;
 use stores::Refusal;
 use stores::Rules;
 use stores::gain_of;
+use stores::is_partial;
 
 impl<'a> Table<'a> {
     // The index at which a rule begins.
@@ -61,7 +61,7 @@ pub impl<'a> Rules for Table<'a> as TableRules {
         if rule < 1 || rule > self.rules {
             return Err(Refusal::Unfit);
         }
-        if partial.len() != self.vars || !is_legal(partial) {
+        if !is_partial(partial, self.vars) {
             return Err(Refusal::Unfit);
         }
         Ok(self.seen(rule, partial))

@@ -8,7 +8,6 @@ ghost use lib.Dec.{eqb};
 ghost use denote.Ref.{ptr};
 ghost use Rattle.rules.specs.Literals.{Literal, Each, place, side};
 ghost use Rattle.rules.specs.Rules.{true-count, is-odd};
-ghost use Rattle.stores.specs.Stores.{legal};
 ghost use Rattle.meaning.specs.declared.Kind.the-variants.{Clause, Odd};
 ghost use Rattle.meaning.specs.Listed.{free-of, look-at};
 ghost use Rattle.tables.specs.Scan.{front, has-end, next-of, free-by, last-by, last-of, answer-by};
@@ -106,18 +105,6 @@ impl Tally {
             Kind::Odd => self.odd(),
         }
     }
-}
-
-// Every byte is 0, 1 or 2.
-pub fn is_legal(partial: &[u8]) -> bool
-    ensures { λ r. ⌜ r ≡ legal (now (partial .entry)) ⌝ }
-{
-    for b in partial {
-        if *b > 2 {
-            return false;
-        }
-    }
-    true
 }
 
 // The tally of the rule that begins at an index, and the index after the rule.
