@@ -1,12 +1,5 @@
-// Looks at stores joined, and walks over them.
-use meaning::Kind;
-use rules::Fault;
+// Looks at two tables joined.
 use std::test::*;
-use stores::ByLook;
-use stores::ByLookRules;
-use stores::Find;
-use stores::FindDebug;
-use stores::FindPartialEq;
 use stores::Joined;
 use stores::JoinedRules;
 use stores::Look;
@@ -16,23 +9,19 @@ use stores::Refusal;
 use stores::RefusalDebug;
 use stores::RefusalPartialEq;
 use stores::Rules;
-use tables::Table;
 use tables::TableRules;
 use tables::Tables;
 
-fn number(result: Result<(), Fault>) -> u32 {
-    match result {
-        Ok(()) => 0,
-        Err(fault) => fault.reason.number(),
-    }
-}
-
 // Two clauses and then an odd rule.
-fn looks_at<F: Rules, G: Rules>(first: &F, second: &G) -> Result<(), Fail> {
-    if Joined::check(first, second).is_err() {
-        return Err(Fail::new("not joined"));
+#[test]
+fn looks() -> Result<(), Fail> {
+    let clauses = [1, 2, 0, -3, 0];
+    let odds = [1, 2, 3, 0];
+    if Tables::check(&clauses, &odds, 3).is_err() {
+        return Err(Fail::new("refused"));
     }
-    let store = Joined::join(first, second);
+    let tables = Tables::open(&clauses, &odds, 3);
+    let store = Joined::join(&tables.clauses, &tables.odds);
     check_eq(store.variables(), 3)?;
     check_eq(store.rules(), 3)?;
     let rows: [(usize, [u8; 3], Look); 6] = [
@@ -46,19 +35,22 @@ fn looks_at<F: Rules, G: Rules>(first: &F, second: &G) -> Result<(), Fail> {
     for (rule, partial, look) in rows {
         check_eq(store.look(rule, &partial), Ok(look))?;
     }
-    check_eq(store.look(0, &[0, 0, 0]), Err(Refusal::Unfit))?;
-    check_eq(store.look(4, &[0, 0, 0]), Err(Refusal::Unfit))?;
-    check_eq(store.look(3, &[0, 0, 3]), Err(Refusal::Unfit))?;
-    check_eq(store.look(3, &[0, 0]), Err(Refusal::Unfit))
+    Ok(())
 }
 
 #[test]
-fn looks() -> Result<(), Fail> {
+fn refusals() -> Result<(), Fail> {
     let clauses = [1, 2, 0, -3, 0];
     let odds = [1, 2, 3, 0];
     if Tables::check(&clauses, &odds, 3).is_err() {
         return Err(Fail::new("refused"));
     }
     let tables = Tables::open(&clauses, &odds, 3);
-    looks_at(&tables.clauses, &tables.odds)
+    let store = Joined::join(&tables.clauses, &tables.odds);
+    check_eq(store.look(0, &[0, 0, 0]), Err(Refusal::Unfit))?;
+    check_eq(store.look(4, &[0, 0, 0]), Err(Refusal::Unfit))?;
+    check_eq(store.look(3, &[0, 0, 3]), Err(Refusal::Unfit))?;
+    check_eq(store.look(1, &[0, 0]), Err(Refusal::Unfit))?;
+    check_eq(store.look(3, &[0, 0, 0, 0]), Err(Refusal::Unfit))
 }
+
