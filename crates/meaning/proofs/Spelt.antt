@@ -18,7 +18,7 @@ use Rattle.meaning.specs.declared.Kind.the-variants.{Clause, Odd}
 use Rattle.meaning.specs.Listed.{rule-of, nth-rule, listed}
 use Rattle.stores.specs.Joins.{join-fault}
 use Rattle.meaning.specs.Tables.{parts, ends, open-fault, opens, is-none, Holds-rules}
-use Rattle.meaning.specs.Spelt.{Ruled, joined-rules, Means-rules, Filled, or-fault, both-fault}
+use Rattle.meaning.specs.Spelt.{Ruled, joined-rules, Means-rules, Filled, or-fault, together-fault, both-fault}
 use Rattle.meaning.proofs.Tables.{rules-open, ends-numbers, opened-count}
 
 -- ---- the clauses and the odd rules of a list
@@ -126,8 +126,8 @@ module _ (n : ℕ) (rs : List Rule) (c o : List ℤ) (h : Filled n rs c o) where
 
   pub filled-open : both-fault n c o ≡ none
   filled-open =
-      ap (λ u. or-fault u (or-fault (open-fault n o) (cond (ltb 16384 (ends c + ends o)) (some (19, 0)) none))) (rules-open n c (clauses rs) clauses-held .0)
-      ∙ ap (λ u. or-fault u (cond (ltb 16384 (ends c + ends o)) (some (19, 0)) none)) (rules-open n o (odds rs) odds-held .0)
+      ap (λ u. or-fault u (or-fault (open-fault n o) (together-fault c o))) (rules-open n c (clauses rs) clauses-held .0)
+      ∙ ap (λ u. or-fault u (together-fault c o)) (rules-open n o (odds rs) odds-held .0)
       ∙ ap (λ b. cond b (some (19, 0)) none) few-both
 
   pub filled-mean : Means-rules (joins (listed Clause n (parts c)) (listed Odd n (parts o))) n rs
@@ -156,14 +156,13 @@ both-open n c o h =
 
 -- ---- the first fault of the two, as a check meets it
 pub fault-first : (n : ℕ) (c o : List ℤ) (x : ℕ × ℕ) → some x ≡ open-fault n c → some x ≡ both-fault n c o
-fault-first n c o x e = ap (λ u. or-fault u (or-fault (open-fault n o) (cond (ltb 16384 (ends c + ends o)) (some (19, 0)) none))) e
+fault-first n c o x e = ap (λ u. or-fault u (or-fault (open-fault n o) (together-fault c o))) e
 
-fault-rest : (n : ℕ) (c o : List ℤ) (f : Option (ℕ × ℕ)) → none ≡ open-fault n c → f ≡ or-fault (open-fault n o) (cond (ltb 16384 (ends c + ends o)) (some (19, 0)) none) → f ≡ both-fault n c o
-fault-rest n c o f e h = h ∙ ap (λ u. or-fault u (or-fault (open-fault n o) (cond (ltb 16384 (ends c + ends o)) (some (19, 0)) none))) e
+fault-rest : (n : ℕ) (c o : List ℤ) (f : Option (ℕ × ℕ)) → none ≡ open-fault n c → f ≡ or-fault (open-fault n o) (together-fault c o) → f ≡ both-fault n c o
+fault-rest n c o f e h = h ∙ ap (λ u. or-fault u (or-fault (open-fault n o) (together-fault c o))) e
 
 pub fault-second : (n : ℕ) (c o : List ℤ) (x : ℕ × ℕ) → none ≡ open-fault n c → some x ≡ open-fault n o → some x ≡ both-fault n c o
-fault-second n c o x e f = fault-rest n c o (some x) e (ap (λ u. or-fault u (cond (ltb 16384 (ends c + ends o)) (some (19, 0)) none)) f)
+fault-second n c o x e f = fault-rest n c o (some x) e (ap (λ u. or-fault u (together-fault c o)) f)
 
-pub fault-third : (n : ℕ) (c o : List ℤ) (b : Bool) → none ≡ open-fault n c → none ≡ open-fault n o → ltb 16384 (ends c + ends o) ≡ b → cond b (some (19, 0)) none ≡ both-fault n c o
-fault-third n c o b e f h =
-    fault-rest n c o (cond b (some (19, 0)) none) e (ap (λ u. cond u (some (19, 0)) none) (sym h) ∙ ap (λ u. or-fault u (cond (ltb 16384 (ends c + ends o)) (some (19, 0)) none)) f)
+pub fault-third : (n : ℕ) (c o : List ℤ) (f : Option (ℕ × ℕ)) → none ≡ open-fault n c → none ≡ open-fault n o → f ≡ together-fault c o → f ≡ both-fault n c o
+fault-third n c o f e g h = fault-rest n c o f e (h ∙ ap (λ u. or-fault u (together-fault c o)) g)

@@ -42,5 +42,8 @@ abbrev pub or-fault : Option (ℕ × ℕ) → Option (ℕ × ℕ) → Option (�
 or-fault (some x) g = some x
 or-fault none g = g
 
+abbrev pub together-fault : List ℤ → List ℤ → Option (ℕ × ℕ)
+together-fault c o = cond (ltb 16384 (ends c + ends o)) (some (19, 0)) none
+
 abbrev pub both-fault : ℕ → List ℤ → List ℤ → Option (ℕ × ℕ)
-both-fault n c o = or-fault (open-fault n c) (or-fault (open-fault n o) (cond (ltb 16384 (ends c + ends o)) (some (19, 0)) none))
+both-fault n c o = or-fault (open-fault n c) (or-fault (open-fault n o) (together-fault c o))

@@ -1,12 +1,12 @@
 -- A table of numbers: the rules that it holds, and what is wrong with one that does not open.
 use mathlib.Core.Path.{_≡_}
-use mathlib.Core.Bool.{Bool, true, false, cond, _||_}
+use mathlib.Core.Bool.{Bool, true, false, cond, _&&_, _||_}
 use mathlib.Core.List.{List, [], _∷_, _++_}
 use mathlib.Core.Option.{Option, none, some}
 use Prim.Native.Nat.{ℕ, zero, suc, _+_, _-_, _≤_}
 use lib.ListN.{length, take}
 use lib.IntN.{ℤ, pos, negsuc, natAbs}
-use lib.Dec.{eqb, ltb}
+use lib.Dec.{eqb, leb, ltb}
 use Rattle.rules.specs.Literals.{Each}
 use Rattle.rules.specs.Rules.{Fits, numbers}
 
@@ -24,6 +24,10 @@ onto z (ls ∷ rs) = (z ∷ ls) ∷ rs
 abbrev pub parts : List ℤ → List (List ℤ)
 parts [] = []
 parts (z ∷ zs) = cond (is-end z) ([] ∷ parts zs) (onto z (parts zs))
+
+-- whether a number is that of one of m rules
+abbrev pub is-rule : ℕ → ℕ → Bool
+is-rule m r = leb 1 r && leb r m
 
 -- where the rule r, numbered from 1, begins: after the numbers of the rules before it
 abbrev pub start-of : List (List ℤ) → ℕ → ℕ

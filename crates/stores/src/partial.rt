@@ -21,5 +21,8 @@ pub fn is_partial(bytes: &[u8], vars: usize) -> bool
     ensures value { λ r. ⌜ r ≡ is-partial vars (now (bytes .entry)) ⌝ }
     ensures fits { λ r. ⌜ (r ≡ true → Partial vars (now (bytes .entry))) ⌝ }
 {
-    bytes.len() == vars && is_legal(bytes)
+    if bytes.len() != vars {
+        return false;
+    }
+    is_legal(bytes)
 }

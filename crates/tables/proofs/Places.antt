@@ -6,16 +6,22 @@ use Prim.Native.Nat.{ℕ, zero, suc, _+_, _-_, _<_, _≤_}
 use native.Mathlib.Omega.{arith}
 use lib.IntN.{ℤ, pos}
 use lib.ListN.{length, getD, take, drop, length-drop, length-append}
+use lib.Dec.{leb}
 use lib.Seq.{drop-cons}
+use Rattle.std.proofs.shelf.Tests.{and-parts, leb-true}
 use Rattle.std.proofs.shelf.Lists.{drop-drop}
 use Rattle.rules.specs.Literals.{Each, Literal}
 use Rattle.rules.specs.Rules.{Fits, numbers}
-use Rattle.meaning.specs.Tables.{is-end, parts, opens, start-of}
+use Rattle.meaning.specs.Tables.{is-end, parts, opens, is-rule, start-of}
 use Rattle.meaning.specs.Listed.{nth-rule}
 use Rattle.meaning.proofs.Tables.{parts-numbers, opened-rules}
 use Rattle.tables.specs.Scan.{front, next-of}
 use Rattle.tables.proofs.Rows.{Walking, front-rule, drop-rule}
 
+
+-- the number of a rule that is there
+pub rule-from : (m r : ℕ) → true ≡ is-rule m r → (1 ≤ r) × (r ≤ m)
+rule-from m r h = let a = and-parts (leb 1 r) (leb r m) (sym h) in (leb-true 1 r (a .0), leb-true r m (a .1))
 
 -- one rule more
 start-more : (rs : List (List ℤ)) (k : ℕ) → k < length rs → length (numbers (take (suc k) rs)) ≡ length (numbers (take k rs)) + suc (length (getD rs k []))

@@ -5,7 +5,7 @@ ghost use mathlib.Core.Option.{none};
 ghost use Rattle.rules.specs.Rules.{Rule};
 ghost use Rattle.stores.specs.Numbers.{fault-of};
 ghost use Rattle.stores.specs.Joins.{joins, join-fault};
-ghost use Rattle.meaning.specs.Spelt.{Filled, Means-rules, both-fault};
+ghost use Rattle.meaning.specs.Spelt.{Filled, Means-rules, together-fault, both-fault};
 ghost use Rattle.meaning.specs.declared.Kind.the-variants.{Clause, Odd};
 ghost use Rattle.tables.specs.Laws.{table-store};
 use crate::opening::count_rules;
@@ -20,6 +20,17 @@ pub struct Tables<'a> {
     pub odds: Table<'a>,
 }
 
+// Refuses two tables with too many rules together.
+fn check_together(clauses: &[i32], odds: &[i32]) -> Result<(), Fault>
+    ensures { λ r. ⌜ fault-of r ≡ together-fault (now (clauses .entry)) (now (odds .entry)) ⌝ }
+{
+    let all = count_rules(clauses).saturating_add(count_rules(odds));
+    if all > 16384 {
+        return Err(Fault { reason: Reason::Limits, place: 0 });
+    }
+    Ok(())
+}
+
 impl<'a> Tables<'a> {
     // Refuses two tables that are not one of clauses and one of odd rules over so many variables. Those that a
     // reader fills are never refused.
@@ -29,10 +40,7 @@ impl<'a> Tables<'a> {
     {
         Table::check(clauses, vars)?;
         Table::check(odds, vars)?;
-        if count_rules(clauses) + count_rules(odds) > 16384 {
-            return Err(Fault { reason: Reason::Limits, place: 0 });
-        }
-        Ok(())
+        check_together(clauses, odds)
     }
 
     // The two as stores, once they have been checked. Joined they mean the rules that a reader filled them with.

@@ -1,13 +1,12 @@
 // A table of rules as a store, and the hand-out of a rule.
 ghost use mathlib.Core.Path.{_≡_};
 ghost use Prim.Native.Nat.{ℕ, _+_, _*_, _≤_};
-ghost use lib.Dec.{leb};
-ghost use mathlib.Core.Bool.{_&&_, true, false};
+ghost use mathlib.Core.Bool.{true, false};
 ghost use denote.Ref.{now, ptr};
 ghost use Rattle.std.specs.Results.{Cases};
 ghost use Rattle.stores.specs.Numbers.{number-of};
 ghost use Rattle.meaning.specs.Listed.{nth-rule};
-ghost use Rattle.meaning.specs.Tables.{parts, start-of};
+ghost use Rattle.meaning.specs.Tables.{parts, is-rule, start-of};
 ghost use Rattle.tables.specs.Laws.{table-store, table-laws};
 use crate::scan::literals_at;
 use crate::scan::next_rule;
@@ -21,6 +20,13 @@ use stores::gain_of;
 use stores::is_partial;
 
 impl<'a> Table<'a> {
+    // Whether there is a rule of this number.
+    fn has_rule(&self, rule: usize) -> bool
+        ensures { λ r. ⌜ r ≡ is-rule (now (self .entry) .rules) rule ⌝ }
+    {
+        1 <= rule && rule <= self.rules
+    }
+
     // The index at which a rule begins.
     fn start(&self, rule: usize) -> usize
         requires { ⌜ 1 ≤ rule ⌝ ∗ ⌜ rule ≤ now self .rules ⌝ }
@@ -35,9 +41,9 @@ impl<'a> Table<'a> {
 
     // The literals of a rule, numbered from 1: that very part of the lent table.
     pub fn rule(&self, rule: usize) -> Result<&'a [i32], Refusal>
-        ensures { λ r. ⌜ Cases r (λ s. ((leb 1 rule && leb rule (now (self .entry) .rules)) ≡ true) × (now s ≡ nth-rule (parts (now (now (self .entry) .table))) rule) × (ptr s ≡ (ptr (now (self .entry) .table) .0, ptr (now (self .entry) .table) .1 + start-of (parts (now (now (self .entry) .table))) rule * 4))) (λ e. ((leb 1 rule && leb rule (now (self .entry) .rules)) ≡ false) × (number-of e ≡ 18)) ⌝ }
+        ensures { λ r. ⌜ Cases r (λ s. (is-rule (now (self .entry) .rules) rule ≡ true) × (now s ≡ nth-rule (parts (now (now (self .entry) .table))) rule) × (ptr s ≡ (ptr (now (self .entry) .table) .0, ptr (now (self .entry) .table) .1 + start-of (parts (now (now (self .entry) .table))) rule * 4))) (λ e. (is-rule (now (self .entry) .rules) rule ≡ false) × (number-of e ≡ 18)) ⌝ }
     {
-        if rule < 1 || rule > self.rules {
+        if !self.has_rule(rule) {
             return Err(Refusal::Unfit);
         }
         Ok(literals_at(self.table, self.start(rule)))
@@ -58,7 +64,7 @@ pub impl<'a> Rules for Table<'a> as TableRules {
     }
 
     fn look(&self, rule: usize, partial: &[u8]) -> Result<Look, Refusal> {
-        if rule < 1 || rule > self.rules {
+        if !self.has_rule(rule) {
             return Err(Refusal::Unfit);
         }
         if !is_partial(partial, self.vars) {

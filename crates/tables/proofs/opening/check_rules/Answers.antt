@@ -10,12 +10,9 @@ use Rattle.std.proofs.shelf.Signed.{toZ-ofZ}
 use Rattle.std.specs.shelf.Lists.{between}
 use Rattle.meaning.specs.Tables.{has-var}
 use Rattle.tables.proofs.Rows.{end-bits, lit-bits}
-use Rattle.tables.proofs.Checking.{checked-starts, checked-end, checked-lit, checked-above, checked-twice, checked-unended, checked-none}
+use Rattle.tables.proofs.Checking.{checked-end, checked-lit, checked-above, checked-twice, checked-unended, checked-none}
 use Rattle.tables.proofs.opening.check_rules.Needs as need
 use Rattle.tables.proofs.opening.check_rules.Needs.{then-z-eq0, else-z-eq0·else-unsigned-abs-vars·else-has-var}
-
-pub loop-i-holds : need.loop-i-holds
-loop-i-holds c = checked-starts _ _
 
 pub returns-then-unsigned-abs-vars : need.returns-then-unsigned-abs-vars
 returns-then-unsigned-abs-vars c =

@@ -1,13 +1,6 @@
-use mathlib.Core.Path.{_≡_, ap, _∙_}
-use mathlib.Core.Bool.{true, false, cond}
-use mathlib.Core.Option.{some, none}
-use Prim.Native.Nat.{_+_, _<_, _≤_}
-use native.Mathlib.Omega.{arith}
-use lib.Dec.{ltb}
+use mathlib.Core.Path.{_≡_, _∙_}
 use Rattle.std.proofs.shelf.Results.{err-from-errBy}
-use Rattle.std.proofs.shelf.Tests.{lt-ltb, le-ltb}
 use Rattle.stores.specs.Numbers.{fault-of}
-use Rattle.meaning.specs.Tables.{ends}
 use Rattle.meaning.specs.Spelt.{both-fault}
 use Rattle.meaning.proofs.Spelt.{filled-open, fault-first, fault-second, fault-third}
 use Rattle.tables.proofs.both.Tables.check.Needs as need
@@ -30,20 +23,10 @@ returns-in-Break-check-2 c =
     let e : fault-of (c .from-residual-in-Break-check-2 .result) ≡ both-fault n cs os = rw (p .1, p .2) (fault-second n cs os _ (c .in-Continue-check .ensures tt .value) (c .in-Break-check-2 .ensures tt .value)) in
     record { value = e; filled = λ rs h. e ∙ filled-open n rs cs os h }
 
-pub returns-then-count-rules-gt16384 : need.returns-then-count-rules-gt16384
-returns-then-count-rules-gt16384 c =
-    let n = c .args .vars in
-    let cs = c .args .clauses .now in
-    let os = c .args .odds .now in
-    let many : 16384 < ends cs + ends os = omega (arith, c .count-rules .ensures, c .count-rules-2 .ensures) in
-    let e : some (19, 0) ≡ both-fault n cs os = fault-third n cs os true (c .in-Continue-check .ensures tt .value) (c .in-Continue-check-2 .ensures tt .value) (lt-ltb 16384 (ends cs + ends os) many) in
-    record { value = e; filled = λ rs h. e ∙ filled-open n rs cs os h }
-
 pub returns : need.returns
 returns c =
     let n = c .args .vars in
     let cs = c .args .clauses .now in
     let os = c .args .odds .now in
-    let few : ends cs + ends os ≤ 16384 = omega (arith, c .count-rules .ensures, c .count-rules-2 .ensures) in
-    let e : none ≡ both-fault n cs os = fault-third n cs os false (c .in-Continue-check .ensures tt .value) (c .in-Continue-check-2 .ensures tt .value) (le-ltb 16384 (ends cs + ends os) few) in
+    let e : fault-of (c .check-together .result) ≡ both-fault n cs os = fault-third n cs os _ (c .in-Continue-check .ensures tt .value) (c .in-Continue-check-2 .ensures tt .value) (c .check-together .ensures) in
     record { value = e; filled = λ rs h. e ∙ filled-open n rs cs os h }
