@@ -2,9 +2,10 @@
 use mathlib.Core.Path.{_≡_}
 use mathlib.Core.Bool.{Bool, true, false, cond, _&&_, _||_}
 use mathlib.Core.List.{List, [], _∷_, _++_}
+use mathlib.Core.Logic.{_⊎_}
 use mathlib.Core.Option.{Option, none, some}
-use Prim.Native.Nat.{ℕ, zero, suc, _+_, _-_, _≤_}
-use lib.ListN.{length, take}
+use Prim.Native.Nat.{ℕ, zero, suc, _+_, _-_, _<_, _≤_}
+use lib.ListN.{length, getD, take}
 use lib.IntN.{ℤ, pos, negsuc, natAbs}
 use lib.Dec.{eqb, leb, ltb}
 use Rattle.rules.specs.Literals.{Each}
@@ -76,7 +77,27 @@ is-none (some x) = false
 abbrev pub opens : ℕ → List ℤ → Bool
 opens n t = is-none (open-fault n t)
 
--- ---- the same in the words of the subject: a table opens just if it holds rules that fit, within the limits
+-- the literals of the rule at the index i that stand before it, where `seen` came before the table
+abbrev pub since : List ℤ → ℕ → List ℤ → List ℤ
+since seen zero t = seen
+since seen (suc i) [] = seen
+since seen (suc i) (z ∷ zs) = cond (is-end z) (since [] i zs) (since (seen ++ (z ∷ [])) i zs)
+
+-- why a rule is refused with the number k at the index i
+abbrev pub Wrong : ℕ → List ℤ → List ℤ → ℕ → ℕ → Type 0
+Wrong n seen t k i =
+    ((k ≡ 13) × (i < length t) × (n < natAbs (getD t i (pos 0))))
+      ⊎ (((k ≡ 14) × (i < length t) × (has-var (since seen i t) (getD t i (pos 0)) ≡ true))
+      ⊎ ((k ≡ 15) × (i ≡ length t)))
+
+-- ---- the same in the words of the subject
+-- A refusal has its reason where it says, and what stands before that index, ended by a 0, has no fault.
+pub record Faults-mean (n : ℕ) (t : List ℤ) : Type 0 where
+  pub limits : beyond n t ≡ true → open-fault n t ≡ some (19, 0)
+  pub reason : (k i : ℕ) → beyond n t ≡ false → open-fault n t ≡ some (k, i) → Wrong n [] t k i
+  pub first : (k i : ℕ) → beyond n t ≡ false → open-fault n t ≡ some (k, i) → rule-fault n (take i t ++ (pos 0 ∷ [])) ≡ none
+
+-- A table opens just if it holds rules that fit, within the limits.
 pub record Holds-rules (n : ℕ) (t : List ℤ) (rs : List (List ℤ)) : Type 0 where
   pub few-vars : n ≤ 2048
   pub few-rules : length rs ≤ 16384

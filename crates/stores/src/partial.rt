@@ -21,8 +21,9 @@ pub fn is_partial(bytes: &[u8], vars: usize) -> bool
     ensures value { λ r. ⌜ r ≡ is-partial vars (now (bytes .entry)) ⌝ }
     ensures fits { λ r. ⌜ (r ≡ true → Partial vars (now (bytes .entry))) ⌝ }
 {
-    if bytes.len() != vars {
-        return false;
+    if bytes.len() == vars {
+        is_legal(bytes)
+    } else {
+        false
     }
-    is_legal(bytes)
 }

@@ -2,7 +2,7 @@
 ghost use mathlib.Core.Path.{_≡_};
 ghost use mathlib.Core.Option.{none};
 ghost use Rattle.stores.specs.Numbers.{fault-of};
-ghost use Rattle.meaning.specs.Tables.{ends, has-var, beyond, rule-fault, open-fault, Opens-rules};
+ghost use Rattle.meaning.specs.Tables.{ends, has-var, beyond, rule-fault, open-fault, Opens-rules, Faults-mean};
 use crate::table::Table;
 use meaning::Kind;
 use rules::Fault;
@@ -70,6 +70,7 @@ impl<'a> Table<'a> {
     pub fn check(table: &[i32], vars: usize) -> Result<(), Fault>
         ensures value { λ r. ⌜ fault-of r ≡ open-fault vars (now (table .entry)) ⌝ }
         ensures rules { λ _. ⌜ Opens-rules vars (now (table .entry)) ⌝ }
+        ensures faults { λ _. ⌜ Faults-mean vars (now (table .entry)) ⌝ }
     {
         if beyond_limits(table, vars) {
             return Err(Fault { reason: Reason::Limits, place: 0 });
