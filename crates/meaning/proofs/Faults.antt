@@ -43,32 +43,36 @@ met-from n seen at (z ∷ zs) k i h = by-end (is-end z) refl h (met-from n [] (a
     by-var false v e low h more =
         let m = more h in
         let j = m .far in
-        record
-          { far = suc j
-          ; there = (let g = m .there in omega arith)
-          ; wrong = on-wrong n seen z zs (seen ++ (z ∷ [])) k j (ap (λ b. cond b (since [] j zs) (since (seen ++ (z ∷ [])) j zs)) e) (m .wrong)
-          ; before = λ a.
+        record {
+          far = suc j;
+          there = (let g = m .there in omega arith);
+          wrong = on-wrong n seen z zs (seen ++ (z ∷ [])) k j (ap (λ b. cond b (since [] j zs) (since (seen ++ (z ∷ [])) j zs)) e) (m .wrong);
+          before = λ a.
               ap (λ b. cond b (fault-from n [] (a + 1) (take j zs ++ (pos 0 ∷ []))) (cond (ltb n (natAbs z)) (some (13, a)) (cond (has-var seen z) (some (14, a)) (fault-from n (seen ++ (z ∷ [])) (a + 1) (take j zs ++ (pos 0 ∷ [])))))) e
               ∙ ap (λ b. cond b (some (13, a)) (cond (has-var seen z) (some (14, a)) (fault-from n (seen ++ (z ∷ [])) (a + 1) (take j zs ++ (pos 0 ∷ []))))) low
               ∙ ap (λ b. cond b (some (14, a)) (fault-from n (seen ++ (z ∷ [])) (a + 1) (take j zs ++ (pos 0 ∷ [])))) v
-              ∙ m .before (a + 1) }
+              ∙ m .before (a + 1);
+        }
+
     by-above : (b : Bool) → ltb n (natAbs z) ≡ b → is-end z ≡ false → cond b (some (13, at)) (cond (has-var seen z) (some (14, at)) (fault-from n (seen ++ (z ∷ [])) (at + 1) zs)) ≡ some (k, i) →
         (fault-from n (seen ++ (z ∷ [])) (at + 1) zs ≡ some (k, i) → Met n (seen ++ (z ∷ [])) zs (at + 1) k i) → Met n seen (z ∷ zs) at k i
     by-above true a e h more =
         let f = same-number 13 k at i h in
         record { far = 0; there = (let g = f .1 in omega arith); wrong = inl (sym (f .0), omega arith, ltb-true n (natAbs z) a); before = λ a. refl }
     by-above false a e h more = by-var (has-var seen z) refl e a h more
+
     by-end : (b : Bool) → is-end z ≡ b → cond b (fault-from n [] (at + 1) zs) (cond (ltb n (natAbs z)) (some (13, at)) (cond (has-var seen z) (some (14, at)) (fault-from n (seen ++ (z ∷ [])) (at + 1) zs))) ≡ some (k, i) →
         (fault-from n [] (at + 1) zs ≡ some (k, i) → Met n [] zs (at + 1) k i) →
         (fault-from n (seen ++ (z ∷ [])) (at + 1) zs ≡ some (k, i) → Met n (seen ++ (z ∷ [])) zs (at + 1) k i) → Met n seen (z ∷ zs) at k i
     by-end true e h past more =
         let m = past h in
         let j = m .far in
-        record
-          { far = suc j
-          ; there = (let g = m .there in omega arith)
-          ; wrong = on-wrong n seen z zs [] k j (ap (λ b. cond b (since [] j zs) (since (seen ++ (z ∷ [])) j zs)) e) (m .wrong)
-          ; before = λ a. ap (λ b. cond b (fault-from n [] (a + 1) (take j zs ++ (pos 0 ∷ []))) (cond (ltb n (natAbs z)) (some (13, a)) (cond (has-var seen z) (some (14, a)) (fault-from n (seen ++ (z ∷ [])) (a + 1) (take j zs ++ (pos 0 ∷ [])))))) e ∙ m .before (a + 1) }
+        record {
+          far = suc j;
+          there = (let g = m .there in omega arith);
+          wrong = on-wrong n seen z zs [] k j (ap (λ b. cond b (since [] j zs) (since (seen ++ (z ∷ [])) j zs)) e) (m .wrong);
+          before = λ a. ap (λ b. cond b (fault-from n [] (a + 1) (take j zs ++ (pos 0 ∷ []))) (cond (ltb n (natAbs z)) (some (13, a)) (cond (has-var seen z) (some (14, a)) (fault-from n (seen ++ (z ∷ [])) (a + 1) (take j zs ++ (pos 0 ∷ [])))))) e ∙ m .before (a + 1);
+        }
     by-end false e h past more = by-above (ltb n (natAbs z)) refl e h more
 
 module _ (n : ℕ) (t : List ℤ) where
@@ -77,7 +81,8 @@ module _ (n : ℕ) (t : List ℤ) where
 
   pub faults-mean : Faults-mean n t
   faults-mean =
-      record
-        { limits = λ b. ap (λ u. cond u (some (19, 0)) (rule-fault n t)) b
-        ; reason = λ k i b h. let m = met k i b h in subst (Wrong n [] t k) (let e : m .far ≡ i = (let f = m .there in omega arith) in e) (m .wrong)
-        ; first = λ k i b h. let m = met k i b h in subst (λ j. rule-fault n (take j t ++ (pos 0 ∷ [])) ≡ none) (let e : m .far ≡ i = (let f = m .there in omega arith) in e) (m .before 0) }
+      record {
+        limits = λ b. ap (λ u. cond u (some (19, 0)) (rule-fault n t)) b;
+        reason = λ k i b h. let m = met k i b h in subst (Wrong n [] t k) (let e : m .far ≡ i = (let f = m .there in omega arith) in e) (m .wrong);
+        first = λ k i b h. let m = met k i b h in subst (λ j. rule-fault n (take j t ++ (pos 0 ∷ [])) ≡ none) (let e : m .far ≡ i = (let f = m .there in omega arith) in e) (m .before 0);
+      }

@@ -38,9 +38,11 @@ count-parts a p (l ∷ ls) e = by (getD p (place l) 0) refl (count-parts a p ls 
     freed : (v : Bool) (x y z : ℕ) → x ≡ y + z → cond v (suc x) x ≡ y + cond v (suc z) z
     freed true x y z h = omega arith
     freed false x y z h = h
+
     kept : (v : Bool) (x y z : ℕ) → x ≡ y + z → cond v (suc x) x ≡ cond v (suc y) y + z
     kept true x y z h = omega arith
     kept false x y z h = h
+
     by : (b : ℕ) → getD p (place l) 0 ≡ b → true-count a ls ≡ true-count p ls + true-count a (free-of p ls) →
         cond (is-true a l) (suc (true-count a ls)) (true-count a ls) ≡ cond (is-true p l) (suc (true-count p ls)) (true-count p ls) + true-count a (if-free b l (free-of p ls))
     by zero h k = rw (free-false p l h) (freed (is-true a l) _ _ _ k)
@@ -162,10 +164,11 @@ module _ (s : Store) (r : ℕ) (p : List ℕ) (fit : Partial (s .n) p) where
   odd-none t k false e = λ a full x. k a x ∙ ap is-odd (let f : t + 0 ≡ t = omega arith in f) ∙ e
 
   odd-last : (t : ℕ) (f : ℤ) → Loose (s .n) p f → Counted Odd t (f ∷ []) → (b : Bool) → is-odd t ≡ b → Means s r p (Forces (cond b (negℤ f) f))
-  odd-last t f l k true e =
-      ( literal-neg (s .n) f (l .0)
-      , ap (λ i. getD p i 0) (place-neg f) ∙ l .1
-      , λ a full x y. true-neg (s .n) a f full (l .0) ∙ turned (is-true a f) (sym (ap (λ u. cond (is-true a f) (not u) u) e) ∙ sym (odd-one t (is-true a f)) ∙ sym (k a x) ∙ y) )
+  odd-last t f l k true e = (
+    literal-neg (s .n) f (l .0),
+    ap (λ i. getD p i 0) (place-neg f) ∙ l .1,
+    λ a full x y. true-neg (s .n) a f full (l .0) ∙ turned (is-true a f) (sym (ap (λ u. cond (is-true a f) (not u) u) e) ∙ sym (odd-one t (is-true a f)) ∙ sym (k a x) ∙ y),
+  )
     where
       turned : (v : Bool) → cond v false true ≡ true → not v ≡ true
       turned true h = h
@@ -196,4 +199,4 @@ listed-keep kind n rs h r p low high fit =
     let ls = nth-rule rs r in
     let law : Fits n ls = each-at (Fits n) rs [] (r - 1) h (tt, tt) in
     answer-means (listed kind n rs) r p fit kind (true-count p ls) (free-of p ls) (free-loose n p ls (law .0)) (free-few n p ls (fit .long) law)
-      (λ a x. holds-count kind a ls ∙ ap (truth kind) (count-parts a p ls x))
+    (λ a x. holds-count kind a ls ∙ ap (truth kind) (count-parts a p ls x))

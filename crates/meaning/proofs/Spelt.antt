@@ -88,8 +88,8 @@ module _ (n : ℕ) (rs : List Rule) (h : Ruled n rs) where
   rules-satisfied a s =
       satisfies-both a rs
       ∙ and-from (all-hold Clause a (clauses rs)) (all-hold Odd a (odds rs))
-          (hold-from Clause a (clauses rs) (λ i l. sym (first-at a i l) ∙ s .rules (suc i) (omega arith) (let e = all-there in omega arith)))
-          (hold-from Odd a (odds rs) (λ i l. sym (second-at a i) ∙ s .rules (suc (length (clauses rs) + i)) (omega arith) (let e = all-there in omega arith)))
+      (hold-from Clause a (clauses rs) (λ i l. sym (first-at a i l) ∙ s .rules (suc i) (omega arith) (let e = all-there in omega arith)))
+      (hold-from Odd a (odds rs) (λ i l. sym (second-at a i) ∙ s .rules (suc (length (clauses rs) + i)) (omega arith) (let e = all-there in omega arith)))
 
   rule-at : (a : List ℕ) → all-hold Clause a (clauses rs) ≡ true → all-hold Odd a (odds rs) ≡ true → (i : ℕ) → suc i ≤ length (clauses rs) + length (odds rs) → (b : Bool) → leb (suc i) (length (clauses rs)) ≡ b → joined-rules n rs .satisfied (suc i) a ≡ true
   rule-at a c o i l true e = let k = leb-true (suc i) (length (clauses rs)) e in first-at a i (omega arith) ∙ hold-at Clause a (clauses rs) i c (omega arith)
@@ -133,7 +133,7 @@ module _ (n : ℕ) (rs : List Rule) (c o : List ℤ) (h : Filled n rs c o) where
   pub filled-mean : Means-rules (joins (listed Clause n (parts c)) (listed Odd n (parts o))) n rs
   filled-mean =
       subst (λ x. Means-rules (joins (listed Clause n x) (listed Odd n (parts o))) n rs) (sym (rules-open n c (clauses rs) clauses-held .1))
-        (subst (λ y. Means-rules (joins (listed Clause n (clauses rs)) (listed Odd n y)) n rs) (sym (rules-open n o (odds rs) odds-held .1)) (joined-means n rs (h .ruled)))
+      (subst (λ y. Means-rules (joins (listed Clause n (clauses rs)) (listed Odd n y)) n rs) (sym (rules-open n o (odds rs) odds-held .1)) (joined-means n rs (h .ruled)))
 
 -- ---- two tables that open may be joined
 or-none : (f g : Option (ℕ × ℕ)) → or-fault f g ≡ none → (f ≡ none) × (g ≡ none)
@@ -150,9 +150,11 @@ both-open n c o h =
     let b = or-none (open-fault n o) _ (a .1) in
     let few = ltb-false 16384 (ends c + ends o) (not-beyond (ltb 16384 (ends c + ends o)) (b .1)) in
     let x = opened-count n c (ap is-none (a .0)) in
-    let y = opened-count n o (ap is-none (b .0)) in
-    ( a .0, b .0
-    , ap (λ u. cond u none (some (19, 0))) (and-from (eqb n n) _ (eq-eqb n n refl) (le-leb (length (parts c) + length (parts o)) 16384 (omega arith))) )
+    let y = opened-count n o (ap is-none (b .0)) in (
+      a .0,
+      b .0,
+      ap (λ u. cond u none (some (19, 0))) (and-from (eqb n n) _ (eq-eqb n n refl) (le-leb (length (parts c) + length (parts o)) 16384 (omega arith))),
+    )
 
 -- ---- the first fault of the two, as a check meets it
 pub fault-first : (n : ℕ) (c o : List ℤ) (x : ℕ × ℕ) → some x ≡ open-fault n c → some x ≡ both-fault n c o

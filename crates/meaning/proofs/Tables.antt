@@ -143,11 +143,12 @@ holds-rules n t h =
 pub rules-open : (n : ℕ) (t : List ℤ) (rs : List (List ℤ)) → Holds-rules n t rs → (open-fault n t ≡ none) × (parts t ≡ rs)
 rules-open n t rs h =
     let e = ap ends (h .spelt) ∙ ends-numbers n rs (h .fit) in
-    let few = h .few-rules in
-    ( ap (λ b. cond (b || ltb 16384 (ends t)) (some (19, 0)) (fault-from n [] 0 t)) (le-ltb 2048 n (h .few-vars))
-      ∙ ap (λ b. cond b (some (19, 0)) (fault-from n [] 0 t)) (le-ltb 16384 (ends t) (omega arith))
-      ∙ ap (fault-from n [] 0) (h .spelt) ∙ none-numbers n rs (h .fit) 0
-    , ap parts (h .spelt) ∙ parts-numbers n rs (h .fit) )
+    let few = h .few-rules in (
+      ap (λ b. cond (b || ltb 16384 (ends t)) (some (19, 0)) (fault-from n [] 0 t)) (le-ltb 2048 n (h .few-vars))
+          ∙ ap (λ b. cond b (some (19, 0)) (fault-from n [] 0 t)) (le-ltb 16384 (ends t) (omega arith))
+          ∙ ap (fault-from n [] 0) (h .spelt) ∙ none-numbers n rs (h .fit) 0,
+      ap parts (h .spelt) ∙ parts-numbers n rs (h .fit),
+    )
 
 pub opens-rules : (n : ℕ) (t : List ℤ) → Opens-rules n t
 opens-rules n t = record { holds = holds-rules n t; opens = rules-open n t }

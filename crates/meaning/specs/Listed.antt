@@ -47,7 +47,9 @@ nth-rule rs r = getD rs (r - 1) []
 
 abbrev pub listed : Kind → ℕ → List (List ℤ) → Store
 listed kind n rs =
-    record
-      { n = n; m = length rs
-      ; satisfied = λ r a. holds a (rule-of kind (nth-rule rs r))
-      ; look = λ r p. look-at kind p (nth-rule rs r) }
+    record {
+      n = n;
+      m = length rs;
+      satisfied = λ r a. holds a (rule-of kind (nth-rule rs r));
+      look = λ r p. look-at kind p (nth-rule rs r);
+    }

@@ -87,8 +87,8 @@ since seen (suc i) (z ∷ zs) = cond (is-end z) (since [] i zs) (since (seen ++ 
 abbrev pub Wrong : ℕ → List ℤ → List ℤ → ℕ → ℕ → Type 0
 Wrong n seen t k i =
     ((k ≡ 13) × (i < length t) × (n < natAbs (getD t i (pos 0))))
-      ⊎ (((k ≡ 14) × (i < length t) × (has-var (since seen i t) (getD t i (pos 0)) ≡ true))
-      ⊎ ((k ≡ 15) × (i ≡ length t)))
+    ⊎ (((k ≡ 14) × (i < length t) × (has-var (since seen i t) (getD t i (pos 0)) ≡ true))
+    ⊎ ((k ≡ 15) × (i ≡ length t)))
 
 -- ---- the same in the words of the subject
 -- A refusal has its reason where it says, and what stands before that index, ended by a 0, has no fault.

@@ -53,4 +53,3 @@ fn refusals() -> Result<(), Fail> {
     check_eq(store.look(1, &[0, 0]), Err(Refusal::Unfit))?;
     check_eq(store.look(3, &[0, 0, 0, 0]), Err(Refusal::Unfit))
 }
-

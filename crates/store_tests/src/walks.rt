@@ -18,7 +18,11 @@ fn walk<S: Rules>(store: &S, before: &[u8], side: &[u8]) -> Option<(Find, bool, 
     if !is_partial(before, n) || !is_partial(side, n) {
         return None;
     }
-    Some((store.lowest(side), store.all_settled(side), store.gain(before, side)))
+    Some((
+        store.lowest(side),
+        store.all_settled(side),
+        store.gain(before, side),
+    ))
 }
 
 // The same by looks alone.
@@ -45,7 +49,10 @@ fn walks() -> Result<(), Fail> {
     ];
     for (side, find, settled, gain) in rows {
         check_eq(walk(&store, &[0, 0, 0], &side), Some((find, settled, gain)))?;
-        check_eq(walk_by_look(&store, &[0, 0, 0], &side), Some((find, settled, gain)))?;
+        check_eq(
+            walk_by_look(&store, &[0, 0, 0], &side),
+            Some((find, settled, gain)),
+        )?;
     }
     check_eq(walk(&store, &[0, 0], &[0, 0, 0]), None)
 }

@@ -31,8 +31,8 @@ legal-bytes (b ∷ p) h (suc i) = legal-bytes p (and-parts (leb b 2) (legal p) h
 pub answered : (s : Store) (r : ℕ) (p : List ℕ) → 1 ≤ r → r ≤ s .m → Partial (s .n) p → answers s r p ≡ true
 answered s r p low high q =
     and-from (leb 1 r) _ (le-leb 1 r low)
-      (and-from (leb r (s .m)) _ (le-leb r (s .m) high)
-        (and-from (eqb (length p) (s .n)) (legal p) (eq-eqb (length p) (s .n) (q .long)) (legal-from p (q .bytes))))
+    (and-from (leb r (s .m)) _ (le-leb r (s .m) high)
+    (and-from (eqb (length p) (s .n)) (legal p) (eq-eqb (length p) (s .n) (q .long)) (legal-from p (q .bytes))))
 
 pub replied : (s : Store) (r : ℕ) (p : List ℕ) → 1 ≤ r → r ≤ s .m → Partial (s .n) p → look-reply s r p ≡ answer-of (s .look r p)
 replied s r p low high q = ap (λ b. cond b (answer-of (s .look r p)) (18, pos 0)) (answered s r p low high q)

@@ -35,14 +35,15 @@ joins-keep s t ks kt r p low high q = by (leb r (s .m)) refl
         let k = leb-false r (s .m) f in
         let h = second-there s t r (joinable s t) refl (omega arith) high in
         means-same t (joins s t) (r - s .m) r p (h .0) (λ a. sym (ap (λ u. cond u (s .satisfied r a) (t .satisfied (r - s .m) a)) f)) (t .look (r - s .m) p)
-          (kt (r - s .m) p (omega arith) (h .1) (subst (λ i. Partial i p) (sym (h .0)) q))
+        (kt (r - s .m) p (omega arith) (h .1) (subst (λ i. Partial i p) (sym (h .0)) q))
 
 joins-few : (s t : Store) → s .m ≤ 16384 → s .m + cond (joinable s t) (t .m) 0 ≤ 16384
 joins-few s t h = cond-both (joinable s t) (t .m) 0 (λ x. s .m + x ≤ 16384) (λ e. leb-true (s .m + t .m) 16384 (and-parts (eqb (s .n) (t .n)) (leb (s .m + t .m) 16384) e .1)) (λ e. omega arith)
 
 pub join-laws : {F G J : Type 0} {f-means : F → Store} {g-means : G → Store} → Lawful f-means → Lawful g-means → (first : J → F) (second : J → G) → Lawful (λ j. joins (f-means (first j)) (g-means (second j)))
 join-laws {f-means = f} {g-means = g} fl gl first second =
-    record
-      { keeps = λ j. joins-keep (f (first j)) (g (second j)) (fl .keeps (first j)) (gl .keeps (second j))
-      ; few-vars = λ j. fl .few-vars (first j)
-      ; few-rules = λ j. joins-few (f (first j)) (g (second j)) (fl .few-rules (first j)) }
+    record {
+      keeps = λ j. joins-keep (f (first j)) (g (second j)) (fl .keeps (first j)) (gl .keeps (second j));
+      few-vars = λ j. fl .few-vars (first j);
+      few-rules = λ j. joins-few (f (first j)) (g (second j)) (fl .few-rules (first j));
+    }

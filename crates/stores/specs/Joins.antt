@@ -17,7 +17,9 @@ join-fault s t = cond (joinable s t) none (some (19, 0))
 -- The two as one store. It is a store in every case: where the two may not be joined, the second adds no rule.
 abbrev pub joins : Store → Store → Store
 joins s t =
-    record
-      { n = s .n; m = s .m + cond (joinable s t) (t .m) 0
-      ; satisfied = λ r a. cond (leb r (s .m)) (s .satisfied r a) (t .satisfied (r - s .m) a)
-      ; look = λ r p. cond (leb r (s .m)) (s .look r p) (t .look (r - s .m) p) }
+    record {
+      n = s .n;
+      m = s .m + cond (joinable s t) (t .m) 0;
+      satisfied = λ r a. cond (leb r (s .m)) (s .satisfied r a) (t .satisfied (r - s .m) a);
+      look = λ r p. cond (leb r (s .m)) (s .look r p) (t .look (r - s .m) p);
+    }

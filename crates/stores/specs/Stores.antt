@@ -33,7 +33,7 @@ Means s r p Settled = (a : List ℕ) → Full (s .n) a → Extends a p → s .sa
 Means s r p Broken = (a : List ℕ) → Full (s .n) a → Extends a p → s .satisfied r a ≡ false
 Means s r p (Forces l) =
     Literal (s .n) l × (getD p (place l) 0 ≡ 0)
-      × ((a : List ℕ) → Full (s .n) a → Extends a p → s .satisfied r a ≡ true → is-true a l ≡ true)
+    × ((a : List ℕ) → Full (s .n) a → Extends a p → s .satisfied r a ≡ true → is-true a l ≡ true)
 Means s r p (Open k) = (2 ≤ k) × (k ≤ free p)
 
 -- every look at a rule of the store says what is so

@@ -36,7 +36,10 @@ impl<'a, 'b, F: Rules, G: Rules> Joined<'a, 'b, F, G> {
         if Joined::fit(first, second) {
             Ok(())
         } else {
-            Err(Fault { reason: Reason::Limits, place: 0 })
+            Err(Fault {
+                reason: Reason::Limits,
+                place: 0,
+            })
         }
     }
 

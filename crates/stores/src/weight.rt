@@ -25,13 +25,7 @@ pub fn gain_of(before: Look, there: Look) -> u32
     ensures bound { λ r. ⌜ r ≤ 1000 ⌝ }
 {
     match (before, there) {
-        (Look::Open(j), Look::Open(k)) => {
-            if k < j {
-                weight_of(k)
-            } else {
-                0
-            }
-        }
+        (Look::Open(j), Look::Open(k)) => { if k < j { weight_of(k) } else { 0 } }
         _ => 0,
     }
 }

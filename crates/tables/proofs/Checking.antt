@@ -32,6 +32,7 @@ module _ {t : List ℤ} {i m : ℕ} (w : Counting t i m) (l : i < length t) wher
     where
       step : (b : Bool) → is-end (getD t i (pos 0)) ≡ b → ends (drop i t) ≡ cond b (suc (ends (drop (i + 1) t))) (ends (drop (i + 1) t))
       step b h = at-drop-more ends t i (pos 0) l ∙ ap (λ u. cond u (suc (ends (drop (i + 1) t))) (ends (drop (i + 1) t))) h
+
       by : (b : Bool) → is-end (getD t i (pos 0)) ≡ b → (m′ : ℕ) → m′ ≡ cond b (suc m) m → Counting t (i + 1) m′
       by true h m′ e = let s = step true h in let a = w .same in let f = w .few in record { same = omega arith; few = omega arith }
       by false h m′ e = let s = step false h in let a = w .same in let f = w .few in record { same = omega arith; few = omega arith }
@@ -63,9 +64,10 @@ module _ {n : ℕ} {t : List ℤ} {start i : ℕ} (k : Checked n t start i) wher
   unfolding repeated above
   checked-end z l r h start′ e =
       let none-yet : between start′ (i + 1) t ≡ [] = ap (λ m. take m (drop start′ t)) (let d : (i + 1) - start′ ≡ 0 = omega arith in d) in
-      record
-        { same = ap (λ seen. fault-from n seen (i + 1) (drop (i + 1) t)) none-yet ∙ sym (cond-true (is-end z) (fault-from n [] (i + 1) (drop (i + 1) t)) (above z) h) ∙ fault-step z l r
-        ; low = omega arith }
+      record {
+        same = ap (λ seen. fault-from n seen (i + 1) (drop (i + 1) t)) none-yet ∙ sym (cond-true (is-end z) (fault-from n [] (i + 1) (drop (i + 1) t)) (above z) h) ∙ fault-step z l r;
+        low = omega arith;
+      }
 
   module _ (z : ℤ) (l : i < length t) (r : z ≡ getD t i (pos 0)) (h : is-end z ≡ false) where
     lit-step : above z ≡ rule-fault n t
@@ -88,9 +90,10 @@ module _ {n : ℕ} {t : List ℤ} {start i : ℕ} (k : Checked n t start i) wher
     unfolding repeated
     checked-lit a v start′ e =
         let more : between start′ (i + 1) t ≡ between start i t ++ (z ∷ []) = ap (λ a. between a (i + 1) t) e ∙ between-more t start i (pos 0) (k .low) l ∙ ap (λ y. between start i t ++ (y ∷ [])) (sym r) in
-        record
-          { same = ap (λ seen. fault-from n seen (i + 1) (drop (i + 1) t)) more ∙ sym (cond-false (has-var (between start i t) z) (some (14, i)) (fault-from n (between start i t ++ (z ∷ [])) (i + 1) (drop (i + 1) t)) v) ∙ var-step a
-          ; low = omega (arith, k .low, e) }
+        record {
+          same = ap (λ seen. fault-from n seen (i + 1) (drop (i + 1) t)) more ∙ sym (cond-false (has-var (between start i t) z) (some (14, i)) (fault-from n (between start i t ++ (z ∷ [])) (i + 1) (drop (i + 1) t)) v) ∙ var-step a;
+          low = omega (arith, k .low, e);
+        }
 
   seen-length : i ≤ length t → length (between start i t) ≡ i - start
   seen-length h = simp (length-take, length-drop) (omega arith)

@@ -18,7 +18,6 @@ use Rattle.meaning.proofs.Tables.{parts-numbers, opened-rules}
 use Rattle.tables.specs.Scan.{front, next-of}
 use Rattle.tables.proofs.Rows.{Walking, front-rule, drop-rule}
 
-
 -- the number of a rule that is there
 pub rule-from : (m r : ℕ) → true ≡ is-rule m r → (1 ≤ r) × (r ≤ m)
 rule-from m r h = let a = and-parts (leb 1 r) (leb r m) (sym h) in (leb-true 1 r (a .0), leb-true r m (a .1))
@@ -88,11 +87,12 @@ module _ (n : ℕ) (t : List ℤ) (o : opens n t ≡ true) (r : ℕ) (low : 1 �
       let s = start-more (parts t) (r - 1) (omega arith) in
       let k : suc (r - 1) ≡ r + 1 - 1 = omega arith in
       let j = ap (λ u. length (numbers (take u (parts t)))) k in
-      record
-        { walk = record { fit = subst (Each (Fits n)) (sym rest-parts) rest-fit; spelt = left ∙ ap numbers (sym rest-parts); within = omega arith }
-        ; there = in-it
-        ; rule = here-front
-        ; next = omega arith }
+      record {
+        walk = record { fit = subst (Each (Fits n)) (sym rest-parts) rest-fit; spelt = left ∙ ap numbers (sym rest-parts); within = omega arith };
+        there = in-it;
+        rule = here-front;
+        next = omega arith;
+      }
 
   pub placed : (at : ℕ) → at ≡ start-of (parts t) r → Placed n t r at
   placed at e = subst (Placed n t r) (sym e) placed-at

@@ -100,13 +100,14 @@ first-rule n ls rs h =
     let q = ap parts d ∙ p in
     let k = length-append ls (pos 0 ∷ numbers rs) in
     let j = ap length f in
-    record
-      { ended = has-rule ls (numbers rs)
-      ; range = subst (Each (Literal n)) (sym f) (h .0 .0)
-      ; rules = parts-rule n ls (numbers rs) (h .0 .0) ∙ ap (λ u. ls ∷ u) (p ∙ sym q) ∙ ap (λ u. u ∷ parts (drop (suc (length (front (ls ++ (pos 0 ∷ numbers rs))))) (ls ++ (pos 0 ∷ numbers rs)))) (sym f)
-      ; fit = subst (Each (Fits n)) (sym q) (h .1)
-      ; spelt = d ∙ ap numbers (sym q)
-      ; short = omega arith }
+    record {
+      ended = has-rule ls (numbers rs);
+      range = subst (Each (Literal n)) (sym f) (h .0 .0);
+      rules = parts-rule n ls (numbers rs) (h .0 .0) ∙ ap (λ u. ls ∷ u) (p ∙ sym q) ∙ ap (λ u. u ∷ parts (drop (suc (length (front (ls ++ (pos 0 ∷ numbers rs))))) (ls ++ (pos 0 ∷ numbers rs)))) (sym f);
+      fit = subst (Each (Fits n)) (sym q) (h .1);
+      spelt = d ∙ ap numbers (sym q);
+      short = omega arith;
+    }
 
 pub first-of : (n : ℕ) (u : List ℤ) (rs : List (List ℤ)) → Each (Fits n) rs → u ≡ numbers rs → 0 < length u → First n u (drop (suc (length (front u))) u)
 first-of n u [] h e l = absurd (let k = ap length e in omega arith)

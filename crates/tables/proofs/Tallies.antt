@@ -66,14 +66,15 @@ module _ {t : List ℤ} {p : List ℕ} {at i trues free : ℕ} {last : ℤ} (w :
         let tr = x ∙ ap (λ v. cond (eqb v (side z)) (suc trues) trues) e in
         let fr = y ∙ ap (λ v. free-by v free) e in
         let la = u ∙ ap (λ v. last-by v z last) e in
-        record
-          { trues-are = ap (λ v. v + true-count p (front (drop (i + 1) t))) tr ∙ more-true (is-true p z) trues (true-count p (front (drop (i + 1) t))) _ (sym (ap (λ ls. trues + true-count p ls) here) ∙ w .trues-are)
-          ; free-are = ap (λ v. v + length fs) fr ∙ more-free (getD p (place z) 0) fs free _ (sym (ap (λ ls. free + length (free-of p ls)) here) ∙ w .free-are)
-          ; last-is = ap (λ v. last-from v fs) la ∙ more-last (getD p (place z) 0) fs ∙ sym (ap (λ ls. last-from last (free-of p ls)) here) ∙ w .last-is
-          ; range = subst (Each (Literal (length p))) here (w .range) .1
-          ; past = past-lit (w .past) z r lit
-          ; few = subst (λ v. v ≤ i + 1) (sym tr) (few-more (is-true p z) trues (w .few))
-          ; few-free = subst (λ v. v ≤ i + 1) (sym fr) (few-free-more (getD p (place z) 0) free (w .few-free)) }
+        record {
+          trues-are = ap (λ v. v + true-count p (front (drop (i + 1) t))) tr ∙ more-true (is-true p z) trues (true-count p (front (drop (i + 1) t))) _ (sym (ap (λ ls. trues + true-count p ls) here) ∙ w .trues-are);
+          free-are = ap (λ v. v + length fs) fr ∙ more-free (getD p (place z) 0) fs free _ (sym (ap (λ ls. free + length (free-of p ls)) here) ∙ w .free-are);
+          last-is = ap (λ v. last-from v fs) la ∙ more-last (getD p (place z) 0) fs ∙ sym (ap (λ ls. last-from last (free-of p ls)) here) ∙ w .last-is;
+          range = subst (Each (Literal (length p))) here (w .range) .1;
+          past = past-lit (w .past) z r lit;
+          few = subst (λ v. v ≤ i + 1) (sym tr) (few-more (is-true p z) trues (w .few));
+          few-free = subst (λ v. v ≤ i + 1) (sym fr) (few-free-more (getD p (place z) 0) free (w .few-free));
+        }
 
   module _ (end : is-end z ≡ true) where
     none-left : front (drop i t) ≡ []

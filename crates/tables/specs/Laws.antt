@@ -13,7 +13,8 @@ table-store s = listed (s .kind) (s .vars) (parts (now (s .table)))
 
 pub table-laws : Lawful table-store
 table-laws =
-    record
-      { keeps = λ s. listed-keep (s .kind) (s .vars) (parts (now (s .table))) (opened-rules (s .vars) (now (s .table)) (s .sound) .fit)
-      ; few-vars = λ s. opened-rules (s .vars) (now (s .table)) (s .sound) .few-vars
-      ; few-rules = λ s. opened-rules (s .vars) (now (s .table)) (s .sound) .few-rules }
+    record {
+      keeps = λ s. listed-keep (s .kind) (s .vars) (parts (now (s .table))) (opened-rules (s .vars) (now (s .table)) (s .sound) .fit);
+      few-vars = λ s. opened-rules (s .vars) (now (s .table)) (s .sound) .few-vars;
+      few-rules = λ s. opened-rules (s .vars) (now (s .table)) (s .sound) .few-rules;
+    }

@@ -26,7 +26,10 @@ fn check_together(clauses: &[i32], odds: &[i32]) -> Result<(), Fault>
 {
     let all = count_rules(clauses).saturating_add(count_rules(odds));
     if all > 16384 {
-        return Err(Fault { reason: Reason::Limits, place: 0 });
+        return Err(Fault {
+            reason: Reason::Limits,
+            place: 0,
+        });
     }
     Ok(())
 }

@@ -45,15 +45,24 @@ fn check_rules(table: &[i32], vars: usize) -> Result<(), Fault>
             start = i + 1;
         } else {
             if z.unsigned_abs() as usize > vars {
-                return Err(Fault { reason: Reason::Variable, place: i });
+                return Err(Fault {
+                    reason: Reason::Variable,
+                    place: i,
+                });
             }
             if has_var(&table[start..i], z) {
-                return Err(Fault { reason: Reason::Repeated, place: i });
+                return Err(Fault {
+                    reason: Reason::Repeated,
+                    place: i,
+                });
             }
         }
     }
     if start < table.len() {
-        return Err(Fault { reason: Reason::Unended, place: table.len() });
+        return Err(Fault {
+            reason: Reason::Unended,
+            place: table.len(),
+        });
     }
     Ok(())
 }
@@ -73,7 +82,10 @@ impl<'a> Table<'a> {
         ensures faults { λ _. ⌜ Faults-mean vars (now (table .entry)) ⌝ }
     {
         if beyond_limits(table, vars) {
-            return Err(Fault { reason: Reason::Limits, place: 0 });
+            return Err(Fault {
+                reason: Reason::Limits,
+                place: 0,
+            });
         }
         check_rules(table, vars)
     }
@@ -83,6 +95,11 @@ impl<'a> Table<'a> {
         requires { ⌜ open-fault vars (now table) ≡ none ⌝ }
         ensures { λ r. ⌜ r .kind ≡ kind ⌝ ∗ ⌜ r .table ≡ table .entry ⌝ ∗ ⌜ r .vars ≡ vars ⌝ }
     {
-        Table { kind, table, vars, rules: count_rules(table) }
+        Table {
+            kind,
+            table,
+            vars,
+            rules: count_rules(table),
+        }
     }
 }

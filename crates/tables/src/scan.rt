@@ -60,9 +60,16 @@ impl Tally {
         ensures last { λ r. ⌜ r .last ≡ last-by byte literal (self .last) ⌝ }
     {
         if byte == 0 {
-            Tally { free: self.free + 1, last: literal, ..self }
+            Tally {
+                free: self.free + 1,
+                last: literal,
+                ..self
+            }
         } else if byte == wanted(literal) {
-            Tally { trues: self.trues + 1, ..self }
+            Tally {
+                trues: self.trues + 1,
+                ..self
+            }
         } else {
             self
         }
@@ -116,7 +123,11 @@ fn tally_at(table: &[i32], at: usize, partial: &[u8]) -> (Tally, usize)
     ensures next { λ r. ⌜ r .1 ≡ next-of (now (table .entry)) at ⌝ }
 {
     let mut i = at;
-    let mut tally = Tally { trues: 0, free: 0, last: 0 };
+    let mut tally = Tally {
+        trues: 0,
+        free: 0,
+        last: 0,
+    };
     while table[i] != 0 {
         let literal = table[i];
         tally = tally.with(literal, byte_of(partial, literal));

@@ -33,12 +33,13 @@ pub loop-i-again : need.loop-i-again
 loop-i-again c =
     let z : ℤ = getD (c .args .table .now) (c .loop-i .i) (pos 0) in
     let f : SFits w32 z = search needs in
-    elim (c .if-z-eq0 .came)
-      [ then-z-eq0 w ↦ checked-end (c .loop-i .inv) z (omega arith) refl (end-bits z f (w .if-z-eq0 .taken)) _ (w .start-is)
+    elim (c .if-z-eq0 .came) [
+      | then-z-eq0 w ↦ checked-end (c .loop-i .inv) z (omega arith) refl (end-bits z f (w .if-z-eq0 .taken)) _ (w .start-is)
       | else-z-eq0·else-unsigned-abs-vars·else-has-var w ↦
           let e : toZ w32 (ofZ w32 z) ≡ z = toZ-ofZ w32 z f in
           let v : w .unsigned-abs .result ≡ natAbs z = w .unsigned-abs .ensures .value ∙ ap natAbs e in
-          checked-lit (c .loop-i .inv) z (omega arith) refl (lit-bits z (w .if-z-eq0 .left)) (omega (arith, v, w .if-unsigned-abs-vars .left)) (ap (has-var (between (c .loop-i .start) (c .loop-i .i) (c .args .table .now))) (sym e) ∙ sym (w .if-has-var .ensures tt)) _ (w .start-is) ]
+          checked-lit (c .loop-i .inv) z (omega arith) refl (lit-bits z (w .if-z-eq0 .left)) (omega (arith, v, w .if-unsigned-abs-vars .left)) (ap (has-var (between (c .loop-i .start) (c .loop-i .i) (c .args .table .now))) (sym e) ∙ sym (w .if-has-var .ensures tt)) _ (w .start-is)
+    ]
 
 pub returns-then-start-table : need.returns-then-start-table
 returns-then-start-table c =

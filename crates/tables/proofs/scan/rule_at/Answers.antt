@@ -8,6 +8,7 @@ answer-requires c κs = let h = last-small (c .args .partial .now) _ _ (c .pre .
 
 pub returns : need.returns
 returns c =
-    record
-      { look = c .answer .ensures ∙ tallied (c .args .kind) (c .args .partial .now) _ _ _ _ (c .tally-at-next .ensures .trues) (c .tally-at-next .ensures .free) (c .tally-at-next .ensures .last)
-      ; next = c .tally-at-next .ensures .next }
+    record {
+      look = c .answer .ensures ∙ tallied (c .args .kind) (c .args .partial .now) _ _ _ _ (c .tally-at-next .ensures .trues) (c .tally-at-next .ensures .free) (c .tally-at-next .ensures .last);
+      next = c .tally-at-next .ensures .next;
+    }

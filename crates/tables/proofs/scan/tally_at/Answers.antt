@@ -36,8 +36,9 @@ returns c =
     let z : ℤ = getD (c .args .table .now) (c .loop-i .i) (pos 0) in
     let f : SFits w32 z = search needs in
     let end = end-bits z f (c .loop-i-test .left) in
-    record
-      { trues = scan-trues (c .loop-i .inv) z refl end
-      ; free = scan-free (c .loop-i .inv) z refl end
-      ; last = scan-last (c .loop-i .inv) z refl end
-      ; next = scan-next (c .loop-i .inv) z refl end }
+    record {
+      trues = scan-trues (c .loop-i .inv) z refl end;
+      free = scan-free (c .loop-i .inv) z refl end;
+      last = scan-last (c .loop-i .inv) z refl end;
+      next = scan-next (c .loop-i .inv) z refl end;
+    }

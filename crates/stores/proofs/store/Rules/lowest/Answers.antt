@@ -23,7 +23,7 @@ returns-in-Forces g c =
     let low : c .loop-i .i < s .m = omega (arith, c .rules-m .ensures) in
     let fit : SFits w32 (c .in-Forces .l) = search needs in
     ap Force (toZ-ofZ w32 (c .in-Forces .l) fit)
-      ∙ sym (c .loop-i .inv ∙ found-more s (c .args .partial .now) (s .m) (c .loop-i .i) low (Forces (c .in-Forces .l)) (c .in-Forces .ensures tt))
+    ∙ sym (c .loop-i .inv ∙ found-more s (c .args .partial .now) (s .m) (c .loop-i .i) low (Forces (c .in-Forces .l)) (c .in-Forces .ensures tt))
 
 pub loop-i-again : need.loop-i-again
 loop-i-again g c =
@@ -31,9 +31,10 @@ loop-i-again g c =
     let p = c .args .partial .now in
     let i = c .loop-i .i in
     let low : i < s .m = omega (arith, c .rules-m .ensures) in
-    elim (c .match-seen .came)
-       [ in-Settled w ↦ c .loop-i .inv ∙ found-more s p (s .m) i low Settled (w .in-Settled .ensures tt) ∙ found-on s p (s .m) i low
-       | in-Open w ↦ c .loop-i .inv ∙ found-more s p (s .m) i low (Open _) (w .in-Open .ensures tt) ∙ found-on s p (s .m) i low ]
+    elim (c .match-seen .came) [
+      | in-Settled w ↦ c .loop-i .inv ∙ found-more s p (s .m) i low Settled (w .in-Settled .ensures tt) ∙ found-on s p (s .m) i low
+      | in-Open w ↦ c .loop-i .inv ∙ found-more s p (s .m) i low (Open _) (w .in-Open .ensures tt) ∙ found-on s p (s .m) i low
+    ]
 
 pub returns : need.returns
 returns g c =

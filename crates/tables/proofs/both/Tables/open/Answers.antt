@@ -27,10 +27,11 @@ returns c =
     let os = c .args .odds .now in
     let a = opened-store (c .open .result) Clause (c .args .clauses) n (c .open .ensures .0) (c .open .ensures .1 .0) (c .open .ensures .1 .1) in
     let b = opened-store (c .open-2 .result) Odd (c .args .odds) n (c .open-2 .ensures .0) (c .open-2 .ensures .1 .0) (c .open-2 .ensures .1 .1) in
-    record
-      { first = c .open .ensures
-      ; second = c .open-2 .ensures
-      ; joined = ap (λ s. join-fault s (table-store (c .open-2 .result))) a ∙ ap (join-fault (listed Clause n (parts cs))) b ∙ both-open n cs os (c .pre) .2
-      ; means = λ rs h.
+    record {
+      first = c .open .ensures;
+      second = c .open-2 .ensures;
+      joined = ap (λ s. join-fault s (table-store (c .open-2 .result))) a ∙ ap (join-fault (listed Clause n (parts cs))) b ∙ both-open n cs os (c .pre) .2;
+      means = λ rs h.
           subst (λ s. Means-rules (joins s (table-store (c .open-2 .result))) n rs) (sym a)
-            (subst (λ s. Means-rules (joins (listed Clause n (parts cs)) s) n rs) (sym b) (filled-mean n rs cs os h)) }
+          (subst (λ s. Means-rules (joins (listed Clause n (parts cs)) s) n rs) (sym b) (filled-mean n rs cs os h));
+    }

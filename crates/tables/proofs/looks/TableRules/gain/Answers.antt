@@ -42,9 +42,10 @@ loop-at-again c =
     let q = c .args .side .now in
     let w = c .loop-at .inv .0 in
     let low : c .loop-at .at < length t = omega arith in
-    let e = gain-step (s .kind) _ _ _ (walk-parts w low (c .rule-at-is .result .1) (c .rule-at-is .ensures .next)) p q _ _ (c .rule-at-was .ensures .look) (c .rule-at-is .ensures .look) in
-    ( walk-on w low (c .rule-at-is .result .1) (c .rule-at-is .ensures .next)
-    , omega (arith, e, c .loop-at .inv .1, c .gain-of-total .ensures .value) )
+    let e = gain-step (s .kind) _ _ _ (walk-parts w low (c .rule-at-is .result .1) (c .rule-at-is .ensures .next)) p q _ _ (c .rule-at-was .ensures .look) (c .rule-at-is .ensures .look) in (
+      walk-on w low (c .rule-at-is .result .1) (c .rule-at-is .ensures .next),
+      omega (arith, e, c .loop-at .inv .1, c .gain-of-total .ensures .value),
+    )
 
 pub returns : need.returns
 returns c =

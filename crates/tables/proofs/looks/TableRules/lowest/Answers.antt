@@ -47,9 +47,10 @@ loop-at-again-in-Settled c =
     let t = s .table .now in
     let p = c .args .partial .now in
     let w = c .loop-at .inv .0 in
-    let low : c .loop-at .at < length t = omega arith in
-    ( walk-on w low (c .rule-at-look .result .1) (c .rule-at-look .ensures .next)
-    , c .loop-at .inv .1 ∙ found-step (s .kind) _ _ _ (walk-parts w low (c .rule-at-look .result .1) (c .rule-at-look .ensures .next)) p Settled (sym (c .in-Settled .is) ∙ c .rule-at-look .ensures .look) )
+    let low : c .loop-at .at < length t = omega arith in (
+      walk-on w low (c .rule-at-look .result .1) (c .rule-at-look .ensures .next),
+      c .loop-at .inv .1 ∙ found-step (s .kind) _ _ _ (walk-parts w low (c .rule-at-look .result .1) (c .rule-at-look .ensures .next)) p Settled (sym (c .in-Settled .is) ∙ c .rule-at-look .ensures .look),
+    )
 
 pub loop-at-again : need.loop-at-again
 loop-at-again c =
@@ -57,9 +58,10 @@ loop-at-again c =
     let t = s .table .now in
     let p = c .args .partial .now in
     let w = c .loop-at .inv .0 in
-    let low : c .loop-at .at < length t = omega arith in
-    ( walk-on w low (c .rule-at-look .result .1) (c .rule-at-look .ensures .next)
-    , c .loop-at .inv .1 ∙ found-step (s .kind) _ _ _ (walk-parts w low (c .rule-at-look .result .1) (c .rule-at-look .ensures .next)) p (Open _) (sym (c .in-Open .is) ∙ c .rule-at-look .ensures .look) )
+    let low : c .loop-at .at < length t = omega arith in (
+      walk-on w low (c .rule-at-look .result .1) (c .rule-at-look .ensures .next),
+      c .loop-at .inv .1 ∙ found-step (s .kind) _ _ _ (walk-parts w low (c .rule-at-look .result .1) (c .rule-at-look .ensures .next)) p (Open _) (sym (c .in-Open .is) ∙ c .rule-at-look .ensures .look),
+    )
 
 pub returns : need.returns
 returns c =

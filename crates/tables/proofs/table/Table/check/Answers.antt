@@ -8,14 +8,16 @@ use Rattle.tables.proofs.table.Table.check.Needs as need
 
 pub returns-then-beyond-limits : need.returns-then-beyond-limits
 returns-then-beyond-limits c =
-    record
-      { value = ap (λ b. cond b (some (19, 0)) (rule-fault (c .args .vars) (c .args .table .now))) (c .if-beyond-limits .ensures tt)
-      ; rules = opens-rules (c .args .vars) (c .args .table .now)
-      ; faults = faults-mean (c .args .vars) (c .args .table .now) }
+    record {
+      value = ap (λ b. cond b (some (19, 0)) (rule-fault (c .args .vars) (c .args .table .now))) (c .if-beyond-limits .ensures tt);
+      rules = opens-rules (c .args .vars) (c .args .table .now);
+      faults = faults-mean (c .args .vars) (c .args .table .now);
+    }
 
 pub returns : need.returns
 returns c =
-    record
-      { value = c .check-rules .ensures ∙ ap (λ b. cond b (some (19, 0)) (rule-fault (c .args .vars) (c .args .table .now))) (c .if-beyond-limits .ensures tt)
-      ; rules = opens-rules (c .args .vars) (c .args .table .now)
-      ; faults = faults-mean (c .args .vars) (c .args .table .now) }
+    record {
+      value = c .check-rules .ensures ∙ ap (λ b. cond b (some (19, 0)) (rule-fault (c .args .vars) (c .args .table .now))) (c .if-beyond-limits .ensures tt);
+      rules = opens-rules (c .args .vars) (c .args .table .now);
+      faults = faults-mean (c .args .vars) (c .args .table .now);
+    }

@@ -16,7 +16,8 @@ pub returns : need.returns
 returns c =
     let s = c .args .self .now in
     let h = rule-from (s .rules) (c .args .rule) (c .if-not-has-rule .ensures tt) in
-    let p = placed (s .vars) (s .table .now) (s .sound) (c .args .rule) (h .0) (subst (λ m. c .args .rule ≤ m) (sym (s .counted)) (h .1)) (c .start .result) (c .start .ensures) in
-    ( sym (c .if-not-has-rule .ensures tt)
-    , c .literals-at .ensures .value ∙ p .rule
-    , c .literals-at .ensures .place ∙ ap (λ k. (ptr (s .table) .0, ptr (s .table) .1 + k * 4)) (c .start .ensures) )
+    let p = placed (s .vars) (s .table .now) (s .sound) (c .args .rule) (h .0) (subst (λ m. c .args .rule ≤ m) (sym (s .counted)) (h .1)) (c .start .result) (c .start .ensures) in (
+      sym (c .if-not-has-rule .ensures tt),
+      c .literals-at .ensures .value ∙ p .rule,
+      c .literals-at .ensures .place ∙ ap (λ k. (ptr (s .table) .0, ptr (s .table) .1 + k * 4)) (c .start .ensures),
+    )
