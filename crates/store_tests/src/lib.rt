@@ -4,10 +4,10 @@ mod clauses;
 #[cfg(test)]
 mod joins;
 #[cfg(test)]
-mod nested;
-#[cfg(test)]
 mod odds;
 #[cfg(test)]
 mod opening;
+#[cfg(test)]
+mod rows;
 #[cfg(test)]
 mod walks;
