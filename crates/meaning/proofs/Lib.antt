@@ -1,0 +1,4 @@
+pub mod Keeps
+pub mod Tables
+pub mod Faults
+pub mod Spelt

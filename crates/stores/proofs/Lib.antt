@@ -1,0 +1,4 @@
+pub mod Replies
+pub mod Walks
+pub mod Joining
+pub mod Bytes

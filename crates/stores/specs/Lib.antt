@@ -1,0 +1,5 @@
+pub mod Numbers
+pub mod Stores
+pub mod Walks
+pub mod Joins
+pub mod JoinLaws
