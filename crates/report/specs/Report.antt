@@ -24,8 +24,8 @@ abbrev pub refused-line : Fault → List ℕ
 refused-line f = codes "refused," ++ (decimal (number-of (f .reason)) ++ (codes "," ++ (decimal (f .place) ++ codes "\n")))
 
 -- a text that was accepted: its variables, clauses and odd rules
-abbrev pub read-line : Counts → List ℕ
-read-line k = codes "read," ++ (decimal (k .variables) ++ (codes "," ++ (decimal (k .clauses) ++ (codes "," ++ (decimal (k .odds) ++ codes "\n")))))
+abbrev pub read-line : ℕ → ℕ → ℕ → List ℕ
+read-line n c o = codes "read," ++ (decimal n ++ (codes "," ++ (decimal c ++ (codes "," ++ (decimal o ++ codes "\n")))))
 
 -- a depth is at most 2,048
 abbrev pub at-most-deepest : ℕ → Option ℕ
@@ -40,7 +40,7 @@ abbrev pub depth-in : List ℕ → Option ℕ
 depth-in line = cond (sameBytes (take 6 line) (codes "depth,")) (depth-by (numeral (drop 6 line))) None
 
 abbrev pub report-line : Result Counts Fault → List ℕ
-report-line (Ok k) = read-line k
+report-line (Ok k) = read-line (k .variables) (k .clauses) (k .odds)
 report-line (Err f) = refused-line f
 
 -- a rule file, whose places count from its own start, read into two tables of 16,384 numbers

@@ -3,15 +3,18 @@ ghost use mathlib.Core.Path.{_≡_};
 ghost use Rattle.std.specs.Of.String.{string-bytes};
 ghost use Rattle.std.specs.Vec.{made};
 ghost use Rattle.report.specs.Report.{at-most-deepest, depth-in, text-line, report-of};
+use crate::counts::counted;
 use crate::lines::accepted;
 use crate::lines::refused;
+use question::open;
+use question::read;
 use reader::first_line;
 use reader::number;
-use reader::read;
 use rules::Fault;
 use rules::Reason;
 use std::alloc::AllocError;
 use std::alloc::Global;
+use tables::TableRules;
 
 // How many numbers each of the two tables has room for.
 const TABLE: usize = 16_384;
@@ -43,7 +46,10 @@ fn text_report(heap: Global, text: &[u8]) -> Result<String, AllocError>
     let mut clauses = [0; TABLE];
     let mut odds = [0; TABLE];
     match read(text, &mut clauses, &mut odds) {
-        Ok(counts) => accepted(heap, counts),
+        Ok(counts) => {
+            let tables = open(counts, &clauses, &odds);
+            accepted(heap, counted(&tables.clauses, &tables.odds))
+        }
         Err(fault) => refused(heap, fault),
     }
 }

@@ -3,7 +3,7 @@ ghost use mathlib.Core.Path.{_≡_};
 ghost use Rattle.std.specs.Of.String.{string-bytes};
 ghost use Rattle.std.specs.Vec.{made};
 ghost use Rattle.report.specs.Report.{refused-line, read-line};
-use reader::Counts;
+use crate::counts::Held;
 use rules::Fault;
 use std::alloc::AllocError;
 use std::alloc::Global;
@@ -16,11 +16,11 @@ pub fn refused(heap: Global, fault: Fault) -> Result<String, AllocError>
     format!(heap, "refused,{number},{place}\n")
 }
 
-pub fn accepted(heap: Global, counts: Counts) -> Result<String, AllocError>
-    ensures { λ r. ⌜ made r (λ s. string-bytes s ≡ read-line counts) ⌝ }
+pub fn accepted(heap: Global, held: Held) -> Result<String, AllocError>
+    ensures { λ r. ⌜ made r (λ s. string-bytes s ≡ read-line (held .variables) (held .clauses) (held .odds)) ⌝ }
 {
-    let variables = counts.variables;
-    let clauses = counts.clauses;
-    let odds = counts.odds;
+    let variables = held.variables;
+    let clauses = held.clauses;
+    let odds = held.odds;
     format!(heap, "read,{variables},{clauses},{odds}\n")
 }
