@@ -23,28 +23,51 @@ fn tables_reply(clauses: &[i32], odds: &[i32], vars: usize) -> (u32, usize) {
 
 #[test]
 fn faults() -> Result<(), Fail> {
-    check_eq(table_reply(&[1, -2, 0, 2, 0], 2), (0, 0))?;
-    check_eq(table_reply(&[9], 2049), (19, 0))?;
-    check_eq(table_reply(&[1, 0, -3, 0], 2), (13, 2))?;
-    check_eq(table_reply(&[1, 2147483647, 0], 2), (13, 1))?;
-    check_eq(table_reply(&[1, -2147483648, 0], 2), (13, 1))?;
-    check_eq(table_reply(&[1, 0], 0), (13, 0))?;
-    check_eq(table_reply(&[2, 0, 1, -1, 0], 2), (14, 3))?;
-    check_eq(table_reply(&[2, 3, 2, 0], 2), (13, 1))?;
-    check_eq(table_reply(&[1, 0, 2], 2), (15, 3))?;
-    check_eq(table_reply(&[1, 1], 2), (14, 1))
+    let replies = [
+        table_reply(&[1, -2, 0, 2, 0], 2),
+        table_reply(&[9], 2049),
+        table_reply(&[1, 0, -3, 0], 2),
+        table_reply(&[1, 2147483647, 0], 2),
+        table_reply(&[1, -2147483648, 0], 2),
+        table_reply(&[1, 0], 0),
+        table_reply(&[2, 0, 1, -1, 0], 2),
+        table_reply(&[2, 3, 2, 0], 2),
+        table_reply(&[1, 0, 2], 2),
+        table_reply(&[1, 1], 2),
+    ];
+    check_eq(
+        replies,
+        [
+            (0, 0),
+            (19, 0),
+            (13, 2),
+            (13, 1),
+            (13, 1),
+            (13, 0),
+            (14, 3),
+            (13, 1),
+            (15, 3),
+            (14, 1),
+        ],
+    )
 }
 
 #[test]
 fn counts() -> Result<(), Fail> {
-    check_eq(table_reply(&[], 2048), (0, 0))?;
-    check_eq(table_reply(&[], 2049), (19, 0))?;
-    check_eq(table_reply(&[0; 16384], 1), (0, 0))?;
-    check_eq(table_reply(&[0; 16385], 1), (19, 0))?;
-    check_eq(tables_reply(&[0; 16384], &[], 1), (0, 0))?;
-    check_eq(tables_reply(&[0; 16384], &[0], 1), (19, 0))?;
-    check_eq(tables_reply(&[1, 0], &[1, 1, 0], 1), (14, 1))?;
-    check_eq(tables_reply(&[2], &[1, 1, 0], 1), (13, 0))
+    let one = [
+        table_reply(&[], 2048),
+        table_reply(&[], 2049),
+        table_reply(&[0; 16384], 1),
+        table_reply(&[0; 16385], 1),
+    ];
+    check_eq(one, [(0, 0), (19, 0), (0, 0), (19, 0)])?;
+    let two = [
+        tables_reply(&[0; 16384], &[], 1),
+        tables_reply(&[0; 16384], &[0], 1),
+        tables_reply(&[1, 0], &[1, 1, 0], 1),
+        tables_reply(&[2], &[1, 1, 0], 1),
+    ];
+    check_eq(two, [(0, 0), (19, 0), (14, 1), (13, 0)])
 }
 
 // The number of rules of a table without variables, and the look at its last rule.
