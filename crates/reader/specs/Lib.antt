@@ -3,6 +3,7 @@ pub mod Spelling
 pub mod Numerals
 pub mod Tokens
 pub mod Runs
+pub mod Left
 pub mod Reading
 pub mod Heads
 pub mod Marks

@@ -6,8 +6,8 @@ ghost use lib.IntN.{ℤ};
 ghost use lib.ListN.{length};
 ghost use Rattle.std.specs.Vec.{made};
 ghost use Rattle.rules.specs.Rules.{Rule};
+ghost use Rattle.reader.specs.Left.{left};
 ghost use Rattle.reader.specs.Reading.{rule-of};
-ghost use Rattle.reader.specs.Tokens.{ahead};
 ghost use Rattle.reader.specs.Turns.{Header-read, Tallied, Rules-read, Checked};
 use crate::cursor::Mode;
 use crate::header::header as header_of;
@@ -70,7 +70,7 @@ impl<'a> Reader<'a> {
         requires { ⌜ variables ≤ 2048 ⌝ }
         ensures text { λ _. ⌜ now (self .exit) .text ≡ now (self .entry) .text ⌝ }
         ensures few { λ r. ⌜ made r (λ t. t .clauses + t .odds ≤ length (now (self .entry) .text .now)) ⌝ }
-        ensures read { λ r. ⌜ Rules-read variables (length (now (self .entry) .text .now)) (ahead (now (self .entry) .text .now) (now (self .entry) .at) (now (self .entry) .mode)) r ⌝ }
+        ensures read { λ r. ⌜ Rules-read variables (length (now (self .entry) .text .now)) (left (now (self .entry))) r ⌝ }
     {
         let mut marks = Marks::new();
         let mut tally = Tally {

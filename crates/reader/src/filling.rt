@@ -3,7 +3,7 @@ ghost use mathlib.Core.Path.{_≡_};
 ghost use mathlib.Core.Bool.{true, false};
 ghost use Prim.Native.Nat.{_≤_};
 ghost use lib.ListN.{length};
-ghost use Rattle.reader.specs.Tokens.{ahead};
+ghost use Rattle.reader.specs.Left.{left};
 ghost use Rattle.reader.specs.Reading.{laid};
 ghost use Rattle.reader.specs.Filling.{still-odd, sent-by};
 use crate::numerals::signed_number;
@@ -20,10 +20,10 @@ fn goes_on(z: i32) -> bool
 impl<'a> Reader<'a> {
     // Writes each rule's literals and its 0 into the table of its kind.
     pub fn fill(&mut self, clauses: &mut [i32], odds: &mut [i32])
-        requires clauses { ⌜ length (sent-by false false (ahead (now self .text .now) (now self .at) (now self .mode))) ≤ length (now clauses) ⌝ }
-        requires odds { ⌜ length (sent-by true false (ahead (now self .text .now) (now self .at) (now self .mode))) ≤ length (now odds) ⌝ }
-        ensures clauses { λ _. ⌜ now (clauses .exit) ≡ laid (sent-by false false (ahead (now (self .entry) .text .now) (now (self .entry) .at) (now (self .entry) .mode))) (now (clauses .entry)) ⌝ }
-        ensures odds { λ _. ⌜ now (odds .exit) ≡ laid (sent-by true false (ahead (now (self .entry) .text .now) (now (self .entry) .at) (now (self .entry) .mode))) (now (odds .entry)) ⌝ }
+        requires clauses { ⌜ length (sent-by false false (left (now self))) ≤ length (now clauses) ⌝ }
+        requires odds { ⌜ length (sent-by true false (left (now self))) ≤ length (now odds) ⌝ }
+        ensures clauses { λ _. ⌜ now (clauses .exit) ≡ laid (sent-by false false (left (now (self .entry)))) (now (clauses .entry)) ⌝ }
+        ensures odds { λ _. ⌜ now (odds .exit) ≡ laid (sent-by true false (left (now (self .entry)))) (now (odds .entry)) ⌝ }
     {
         let mut odd = false;
         let mut c = 0;

@@ -9,6 +9,7 @@ mod numerals;
 mod parts;
 mod reading;
 mod scanning;
+mod steps;
 mod theorem;
 mod words;
 
@@ -17,5 +18,5 @@ pub use counts::CountsDebug;
 pub use counts::CountsPartialEq;
 pub use numerals::number;
 pub use reading::read;
+pub use steps::first_line;
 pub use theorem::reading_right;
-pub use words::first_line;

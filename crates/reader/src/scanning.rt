@@ -6,12 +6,12 @@ ghost use lib.Chars.{codes};
 ghost use lib.IntN.{ℤ};
 ghost use lib.ListN.{length};
 ghost use Rattle.std.specs.Results.{Cases};
+ghost use Rattle.reader.specs.Left.{left, left-after};
 ghost use Rattle.reader.specs.Numerals.{signed-numeral};
 ghost use Rattle.reader.specs.Reading.{literal-says};
 ghost use Rattle.std.specs.Slices.{found};
 ghost use Rattle.std.specs.Vec.{made};
 ghost use Rattle.std.specs.shelf.Text.{sameBytes};
-ghost use Rattle.reader.specs.Tokens.{ahead};
 ghost use Rattle.reader.specs.Marks.{Marked, said-by, grown};
 ghost use Rattle.reader.specs.Turns.{Literals-read, Rule-read};
 use crate::marks::Marks;
@@ -69,7 +69,7 @@ impl<'a> Reader<'a> {
         ensures text { λ _. ⌜ now (self .exit) .text ≡ now (self .entry) .text ⌝ }
         ensures on { λ r. ⌜ made r (λ count. now (self .entry) .at + count + 1 ≤ now (self .exit) .at) ⌝ }
         ensures top { λ _. ⌜ now (marks .exit) .top ≡ now (marks .entry) .top ⌝ }
-        ensures read { λ r. ⌜ ((ls : List ℤ) → Marked (now (marks .entry) .stamps) (now (marks .entry) .top) ls → Literals-read variables (length (now (self .entry) .text .now)) ls (ahead (now (self .entry) .text .now) (now (self .entry) .at) (now (self .entry) .mode)) (ahead (now (self .entry) .text .now) (now (self .exit) .at) (now (self .exit) .mode)) r) ⌝ }
+        ensures read { λ r. ⌜ ((ls : List ℤ) → Marked (now (marks .entry) .stamps) (now (marks .entry) .top) ls → Literals-read variables (length (now (self .entry) .text .now)) ls (left (now (self .entry))) (left-after (now (self .entry)) (now (self .exit))) r) ⌝ }
     {
         let mut count = 0;
         while let Some(word) = self.next_word() {
@@ -92,7 +92,7 @@ impl<'a> Reader<'a> {
         ensures text { λ _. ⌜ now (self .exit) .text ≡ now (self .entry) .text ⌝ }
         ensures on { λ r. ⌜ made r (λ o. found o (λ s. now (self .entry) .at + s .literals + 1 ≤ now (self .exit) .at)) ⌝ }
         ensures top { λ _. ⌜ now (marks .exit) .top ≡ now (marks .entry) .top + 1 ⌝ }
-        ensures read { λ r. ⌜ Rule-read variables (length (now (self .entry) .text .now)) (ahead (now (self .entry) .text .now) (now (self .entry) .at) (now (self .entry) .mode)) (ahead (now (self .entry) .text .now) (now (self .exit) .at) (now (self .exit) .mode)) r ⌝ }
+        ensures read { λ r. ⌜ Rule-read variables (length (now (self .entry) .text .now)) (left (now (self .entry))) (left-after (now (self .entry)) (now (self .exit))) r ⌝ }
     {
         marks.begin();
         let Some(first) = self.next_word() else {
