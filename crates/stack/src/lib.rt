@@ -56,11 +56,25 @@ fn place<T: Copy>(cells: &mut [T], n: usize, x: T) -> bool
     }
 }
 
+// How many places there are behind the first `from`.
+fn left<T: Copy>(cells: &[T], from: usize) -> usize
+    ensures places { λ r. ⌜ r ≡ length (drop from (now (cells .entry))) ⌝ }
+    ensures number { λ r. ⌜ r ≡ length (now (cells .entry)) - from ⌝ }
+{
+    cells.len().saturating_sub(from)
+}
+
+fn fewer(a: usize, b: usize) -> usize
+    ensures { λ r. ⌜ r ≡ min a b ⌝ }
+{
+    if a < b { a } else { b }
+}
+
 // The place i behind the first `from`.
 fn item_behind<T: Copy>(cells: &[T], from: usize, i: usize) -> Option<T>
     ensures { λ r. ⌜ BySome r (length (drop from (now (cells .entry))) ≤ i) (λ x. (i < length (drop from (now (cells .entry)))) × ((d : T) → x ≡ getD (drop from (now (cells .entry))) i d)) ⌝ }
 {
-    if i < cells.len().saturating_sub(from) {
+    if i < left(cells, from) {
         Some(item(cells, from + i))
     } else {
         None
@@ -71,7 +85,7 @@ fn write_behind<T: Copy>(cells: &mut [T], from: usize, i: usize, x: T)
     ensures behind { λ _. ⌜ drop from (now (cells .exit)) ≡ set (drop from (now (cells .entry))) i x ⌝ }
     ensures front { λ _. ⌜ take from (now (cells .exit)) ≡ take from (now (cells .entry)) ⌝ }
 {
-    if i < cells.len().saturating_sub(from) {
+    if i < left(cells, from) {
         write(cells, from + i, x);
     }
 }
@@ -173,9 +187,7 @@ impl<'a, T: Copy> Stack<'a, T> {
         ensures memory { λ _. ⌜ now (self .exit) .cells .now ≡ now (self .entry) .cells .now ⌝ }
         ensures same { λ _. ⌜ name (now (self .exit) .cells) ≡ name (now (self .entry) .cells) ⌝ }
     {
-        if n < self.len {
-            self.len = n;
-        }
+        self.len = fewer(n, self.len);
     }
 
     pub fn get(&self, i: usize) -> Option<T>
@@ -193,7 +205,7 @@ impl<'a, T: Copy> Stack<'a, T> {
     pub fn spare_len(&self) -> usize
         ensures { λ r. ⌜ r ≡ length (spares (now (self .entry))) ⌝ }
     {
-        self.cells.len().saturating_sub(self.len)
+        left(self.cells, self.len)
     }
 
     // The unused place i, counted from the content's end.

@@ -5,6 +5,7 @@ ghost use mathlib.Core.Option.{none};
 ghost use Rattle.rules.specs.Rules.{Rule};
 ghost use Rattle.stores.specs.Numbers.{fault-of};
 ghost use Rattle.stores.specs.Joins.{joins, join-fault};
+ghost use Rattle.meaning.specs.Tables.{open-fault};
 ghost use Rattle.meaning.specs.Spelt.{Filled, Means-rules, together-fault, both-fault};
 ghost use Rattle.meaning.specs.declared.Kind.the-variants.{Clause, Odd};
 ghost use Rattle.tables.specs.Laws.{table-store};
@@ -34,6 +35,18 @@ fn check_together(clauses: &[i32], odds: &[i32]) -> Result<(), Fault>
     Ok(())
 }
 
+// Each table as a store of its kind.
+fn opened<'a>(clauses: &'a [i32], odds: &'a [i32], vars: usize) -> Tables<'a>
+    requires { ⌜ open-fault vars (now clauses) ≡ none ⌝ ∗ ⌜ open-fault vars (now odds) ≡ none ⌝ }
+    ensures first { λ r. ⌜ r .clauses .kind ≡ Clause ⌝ ∗ ⌜ r .clauses .table ≡ clauses .entry ⌝ ∗ ⌜ r .clauses .vars ≡ vars ⌝ }
+    ensures second { λ r. ⌜ r .odds .kind ≡ Odd ⌝ ∗ ⌜ r .odds .table ≡ odds .entry ⌝ ∗ ⌜ r .odds .vars ≡ vars ⌝ }
+{
+    Tables {
+        clauses: Table::open(Kind::Clause, clauses, vars),
+        odds: Table::open(Kind::Odd, odds, vars),
+    }
+}
+
 impl<'a> Tables<'a> {
     // Refuses two tables that are not one of clauses and one of odd rules over so many variables. Those that a
     // reader fills are never refused.
@@ -54,9 +67,6 @@ impl<'a> Tables<'a> {
         ensures joined { λ r. ⌜ join-fault (table-store (r .clauses)) (table-store (r .odds)) ≡ none ⌝ }
         ensures means { λ r. ⌜ ((rs : List Rule) → Filled vars rs (now (clauses .entry)) (now (odds .entry)) → Means-rules (joins (table-store (r .clauses)) (table-store (r .odds))) vars rs) ⌝ }
     {
-        Tables {
-            clauses: Table::open(Kind::Clause, clauses, vars),
-            odds: Table::open(Kind::Odd, odds, vars),
-        }
+        opened(clauses, odds, vars)
     }
 }

@@ -1,12 +1,13 @@
+use borrow.Author.Needs.{needs}
 use mathlib.Core.Path.{_≡_, refl, sym, _∙_, ap}
 use Prim.Native.Nat.{_+_, _-_, _<_, _≤_}
-use lib.ListN.{length, take, drop, length-drop}
+use lib.ListN.{length, take, drop}
 use native.Mathlib.Omega.{arith}
 use Rattle.std.proofs.shelf.Lists.{drop-set-add, take-set-le, set-past}
 use Rattle.stack.proofs.write_behind.Needs as need
 
-pub returns-then-i-saturating-sub : need.returns-then-i-saturating-sub
-returns-then-i-saturating-sub g c =
+pub returns-then-i-left : need.returns-then-i-left
+returns-then-i-left g c =
     let xs = c .args .cells .now in
     let n = c .args .from in
     let w = c .write .ensures in
@@ -16,8 +17,8 @@ returns-then-i-saturating-sub g c =
       front = ap (take n) w ∙ take-set-le n xs (n + c .args .i) (c .args .x) k;
     }
 
-pub returns-else-i-saturating-sub : need.returns-else-i-saturating-sub
-returns-else-i-saturating-sub g c =
+pub returns-else-i-left : need.returns-else-i-left
+returns-else-i-left g c =
     let xs = c .args .cells .now in
-    let h : length (drop (c .args .from) xs) ≤ c .args .i = simp length-drop (omega (arith, c .saturating-sub .ensures)) in
+    let h : length (drop (c .args .from) xs) ≤ c .args .i = search needs in
     record { behind = sym (set-past (drop (c .args .from) xs) (c .args .i) (c .args .x) h); front = refl }

@@ -1,16 +1,25 @@
-use mathlib.Core.Path.{_≡_, refl, sym}
-use Prim.Native.Nat.{_≤_, _<_}
-use lib.ListN.{length, take, length-take}
+use mathlib.Core.Path.{_≡_, refl, ap, _∙_}
+use mathlib.Core.List.{List, [], _∷_}
+use Prim.Native.Nat.{ℕ, zero, suc, min}
+use lib.ListN.{take}
 use native.Mathlib.Omega.{arith}
-use Rattle.std.proofs.shelf.Lists.{take-take, take-all}
+use native.Mathlib.Numerals.{unary-clauses}
 use Rattle.stack.proofs.Stack.truncate.Needs as need
 
-pub returns-then-n-self : need.returns-then-n-self
-returns-then-n-self g c =
-    let s = c .args .self .now in
-    record { items = sym (take-take (c .args .n) (s .len) (s .cells .now) (omega arith)); len = omega arith; whole = λ w. omega arith; memory = refl; same = refl }
+take-min : {T : Type 0} (n k : ℕ) (xs : List T) → take (min n k) xs ≡ take n (take k xs)
+take-min zero k xs = simp unary-clauses refl
+take-min (suc n) zero xs = simp unary-clauses refl
+take-min (suc n) (suc k) [] = simp unary-clauses refl
+take-min (suc n) (suc k) (x ∷ xs) = simp unary-clauses (ap (λ ys. x ∷ ys) (take-min n k xs))
 
-pub returns-else-n-self : need.returns-else-n-self
-returns-else-n-self g c =
+pub returns : need.returns
+returns g c =
     let s = c .args .self .now in
-    record { items = sym (take-all (c .args .n) (take (s .len) (s .cells .now)) (simp length-take (omega arith))); len = omega arith; whole = λ w. w; memory = refl; same = refl }
+    let e = c .fewer-self .ensures in
+    record {
+      items = ap (λ m. take m (s .cells .now)) e ∙ take-min (c .args .n) (s .len) (s .cells .now);
+      len = e;
+      whole = λ w. omega (arith, e);
+      memory = refl;
+      same = refl;
+    }

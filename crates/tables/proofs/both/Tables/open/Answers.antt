@@ -14,24 +14,26 @@ use Rattle.tables.specs.Laws.{table-store}
 use Rattle.tables.proofs.Opened.{opened-store}
 use Rattle.tables.proofs.both.Tables.open.Needs as need
 
-pub open-requires : need.open-requires
-open-requires c κs = both-open (c .args .vars) (c .args .clauses .now) (c .args .odds .now) (c .pre) .0
-
-pub open-requires-2 : need.open-requires-2
-open-requires-2 c κs = both-open (c .args .vars) (c .args .clauses .now) (c .args .odds .now) (c .pre) .1
+pub opened-requires : need.opened-requires
+opened-requires c κs =
+    let each = both-open (c .args .vars) (c .args .clauses .now) (c .args .odds .now) (c .pre) in
+    (each .0, each .1)
 
 pub returns : need.returns
 returns c =
     let n = c .args .vars in
     let cs = c .args .clauses .now in
     let os = c .args .odds .now in
-    let a = opened-store (c .open .result) Clause (c .args .clauses) n (c .open .ensures .0) (c .open .ensures .1 .0) (c .open .ensures .1 .1) in
-    let b = opened-store (c .open-2 .result) Odd (c .args .odds) n (c .open-2 .ensures .0) (c .open-2 .ensures .1 .0) (c .open-2 .ensures .1 .1) in
+    let r = c .opened .result in
+    let f = c .opened .ensures .first in
+    let g = c .opened .ensures .second in
+    let a = opened-store (r .clauses) Clause (c .args .clauses) n (f .0) (f .1 .0) (f .1 .1) in
+    let b = opened-store (r .odds) Odd (c .args .odds) n (g .0) (g .1 .0) (g .1 .1) in
     record {
-      first = c .open .ensures;
-      second = c .open-2 .ensures;
-      joined = ap (λ s. join-fault s (table-store (c .open-2 .result))) a ∙ ap (join-fault (listed Clause n (parts cs))) b ∙ both-open n cs os (c .pre) .2;
+      first = f;
+      second = g;
+      joined = ap (λ s. join-fault s (table-store (r .odds))) a ∙ ap (join-fault (listed Clause n (parts cs))) b ∙ both-open n cs os (c .pre) .2;
       means = λ rs h.
-          subst (λ s. Means-rules (joins s (table-store (c .open-2 .result))) n rs) (sym a)
+          subst (λ s. Means-rules (joins s (table-store (r .odds))) n rs) (sym a)
           (subst (λ s. Means-rules (joins (listed Clause n (parts cs)) s) n rs) (sym b) (filled-mean n rs cs os h));
     }
