@@ -1,0 +1,59 @@
+// The threshold's arithmetic: where it may lie, what it becomes, its bits, and the comparison that cuts.
+ghost use mathlib.Core.Path.{_≡_};
+ghost use mathlib.Core.Bool.{true, false, not};
+ghost use Prim.Native.Nat.{_*_};
+ghost use lib.Dec.{T};
+ghost use lib.Ieee.{binary64, isNan, ofBits, toBits};
+ghost use Rattle.cutoff.specs.Theta.{in-range, held, scaled, grow, shrink};
+ghost use Rattle.cutoff.specs.Cutoffs.{exceeds};
+
+const LEAST: f64 = 0.001;
+const MOST: f64 = 1000000000.0;
+
+pub fn in_bounds(theta: f64) -> bool
+    ensures { λ r. ⌜ r ≡ in-range theta ⌝ }
+{
+    (LEAST <= theta) & (theta <= MOST)
+}
+
+fn hold(x: f64) -> f64
+    ensures value { λ r. ⌜ r ≡ held x ⌝ }
+    ensures range { λ r. ⌜ (T (not (isNan x)) → in-range r ≡ true) ⌝ }
+{
+    x.clamp(LEAST, MOST)
+}
+
+pub fn risen(theta: f64) -> f64
+    ensures value { λ r. ⌜ r ≡ scaled grow theta ⌝ }
+{
+    hold(theta * 1.05)
+}
+
+pub fn fallen(theta: f64) -> f64
+    ensures value { λ r. ⌜ r ≡ scaled shrink theta ⌝ }
+{
+    hold(theta * 0.7)
+}
+
+// Whole numbers of 16 bits have a product of 32, and a double holds each of those exactly.
+pub fn passes(n: u16, theta: f64, decisions: u16, set: u16) -> bool
+    ensures { λ r. ⌜ r ≡ exceeds n theta (decisions * set) ⌝ }
+{
+    let product = u32::from(decisions) * u32::from(set);
+    product as f64 > theta * n as f64
+}
+
+pub fn bits(theta: f64) -> u64
+    requires { ⌜ in-range theta ≡ true ⌝ }
+    ensures value { λ r. ⌜ r ≡ toBits binary64 theta ⌝ }
+    ensures same { λ r. ⌜ ofBits binary64 r ≡ theta ⌝ }
+{
+    theta.to_bits()
+}
+
+pub fn from_bits(bits: u64) -> f64
+    requires { ⌜ in-range (ofBits binary64 bits) ≡ true ⌝ }
+    ensures { λ r. ⌜ r ≡ ofBits binary64 bits ⌝ }
+{
+    f64::from_bits(bits)
+}
