@@ -1,18 +1,21 @@
 -- A threshold in range, scaled by a factor above zero and held, is in range again.
 use mathlib.Core.Path.{_≡_, refl, sym, subst, ap, _∙_}
-use mathlib.Core.Bool.{Bool, true, false, cond, not}
+use mathlib.Core.Bool.{Bool, true, false, cond, not, _||_}
 use Prim.Native.Nat.{ℕ, zero, suc, _*_}
-use lib.Dec.{T}
-use lib.Ieee.{Float, Format, nan, inf, fin, binary64, round, units, odd, mul, lt, le, isNan, low, prec, unlike, up, down}
+use native.Mathlib.Nat.{le-trans}
+use lib.Dec.{T, ltb}
+use borrow.Author.Tests.{le-ltb}
+use lib.Ieee.{Float, Format, nan, inf, fin, binary64, round, units, odd, mul, lt, le, eq, isNan, ofBits, low, prec, unlike, up, down}
+use lib.IntN.{ℤ}
 use lib.Ieee.Bits.{is-true, is-false}
 use lib.Ieee.Fits.{round-is}
-use lib.Ieee.Positive.{positive, num, den, own-value, den-pos, mul-at}
+use lib.Ieee.Positive.{positive, num, den, own-value, den-pos, mul-at, le→cross, le-trans-positive, above-of-le}
 use Rattle.cutoff.specs.declared.kinds.Cutoff.{Cutoff}
 use Rattle.cutoff.specs.declared.kinds.Cutoff.the-variants.{Never, Depth, Share, Easing}
 use Rattle.cutoff.specs.Theta.{least, most, in-range, held, scaled}
 use Rattle.cutoff.specs.Cutoffs.{allowed, eased}
 use Rattle.cutoff.specs.Laws.{times, Eases, Moved}
-use Rattle.cutoff.proofs.Ranges.{low-end, high-end, range-positive, range-number, both-ends, least-positive, most-positive}
+use Rattle.cutoff.proofs.Ranges.{passes, low-end, high-end, range-positive, range-number, least-positive, most-positive}
 
 odd-number : (d : ℕ) (s : Bool) (q k l : ℕ) → T (not (isNan (odd d s q k l)))
 unfolding odd isNan
@@ -34,6 +37,74 @@ units-number f s q k = either-number _ _ (inf s) (odd-number (suc (prec f)) s q 
 round-number : (f : Format) (s : Bool) (a b : ℕ) → T (not (isNan (round f s a b)))
 round-number f s a b = rw (round-is f s a b) (units-number f s _ _)
 
+-- where x is at most y, y is not below x
+pub not-below : (x y : Float) → T (positive x) → T (positive y) → T (le x y) → lt y x ≡ false
+unfolding lt
+not-below nan y p q h = absurd p
+not-below (inf s) y p q h = absurd p
+not-below (fin true m e) y p q h = absurd p
+not-below (fin false m e) nan p q h = absurd q
+not-below (fin false m e) (inf t) p q h = absurd q
+not-below (fin false m e) (fin true n d) p q h = absurd q
+not-below (fin false m e) (fin false n d) p q h = le-ltb (n * up d * down e) (m * up e * down d) (le→cross (fin false m e) (fin false n d) p q h)
+
+either-of : (a b : Bool) → T a → T (a || b)
+either-of true b t = tt
+either-of false b t = absurd t
+
+lt-le : (x y : Float) → T (lt x y) → T (le x y)
+unfolding le
+lt-le x y t = either-of (lt x y) (eq x y) t
+
+ends-in-order : T (le least most)
+unfolding le ofBits
+ends-in-order = tt
+
+most-below : (s : Bool) (m : ℕ) (e : ℤ) → T (lt most (fin s m e)) → T (positive (fin s m e))
+unfolding lt ofBits
+most-below true m e t = absurd t
+most-below false m e t = above-of-le most (fin false m e) most-positive (lt-le most (fin false m e) t)
+
+finite-above : (s : Bool) (m : ℕ) (e : ℤ) → T (lt most (fin s m e)) → lt (fin s m e) least ≡ false
+finite-above s m e t =
+    let x = fin s m e in
+    let p = most-below s m e t in
+    not-below least x least-positive p (le-trans-positive least most x least-positive most-positive p ends-in-order (lt-le most x t))
+
+-- what is above the upper end is not below the lower one
+above-not-below : (x : Float) → lt most x ≡ true → lt x least ≡ false
+unfolding lt ofBits
+above-not-below nan h = refl
+above-not-below (inf true) h = absurd (passes false h)
+above-not-below (inf false) h = refl
+above-not-below (fin s m e) h = finite-above s m e (passes (lt most (fin s m e)) h)
+
+held-within : (x : Float) → in-range x ≡ true → held x ≡ x
+held-within x h =
+    let p = range-positive x h in
+    rw (not-below least x least-positive p (low-end x h), not-below x most p most-positive (high-end x h))
+
+held-below : (x : Float) → lt x least ≡ true → held x ≡ least
+held-below x h = rw h
+
+held-above : (x : Float) → lt most x ≡ true → held x ≡ most
+held-above x h = rw (above-not-below x h, h)
+
 -- the product of two doubles above zero is their exact product, rounded once
 pub mul-times : (θ by : Float) → T (positive θ) → T (positive by) → mul binary64 θ by ≡ times θ (num by) (den by)
 mul-times θ by p q = mul-at binary64 θ by (num θ) (den θ) (num by) (den by) p q (den-pos θ) (den-pos by) (own-value θ p) (own-value by q)
+
+-- that a product is no NaN is what holding it in range asks for
+pub product-number : (θ by : Float) → T (positive θ) → T (positive by) → T (not (isNan (mul binary64 θ by)))
+product-number θ by p q = rw (mul-times θ by p q) (round-number binary64 false _ _)
+
+pub eases : (by θ t : Float) → T (positive by) → in-range θ ≡ true → t ≡ scaled by θ → in-range t ≡ true → Eases by θ t
+eases by θ t q h e r =
+    let x = times θ (num by) (den by) in
+    let is : t ≡ held x = e ∙ ap held (mul-times θ by (range-positive θ h) q) in
+    record {
+        within = λ k. is ∙ held-within x k;
+        below = λ k. is ∙ held-below x k;
+        above = λ k. is ∙ held-above x k;
+        range = r;
+        number = is-false (isNan t) (range-number t r) }

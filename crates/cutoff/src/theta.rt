@@ -6,6 +6,7 @@ ghost use lib.Dec.{T};
 ghost use lib.Ieee.{binary64, isNan, ofBits, toBits};
 ghost use Rattle.cutoff.specs.Theta.{in-range, held, scaled, grow, shrink};
 ghost use Rattle.cutoff.specs.Cutoffs.{exceeds};
+ghost use Rattle.cutoff.specs.Laws.{Eases};
 
 const LEAST: f64 = 0.001;
 const MOST: f64 = 1000000000.0;
@@ -25,12 +26,14 @@ fn hold(x: f64) -> f64
 
 pub fn risen(theta: f64) -> f64
     ensures value { λ r. ⌜ r ≡ scaled grow theta ⌝ }
+    ensures law { λ r. ⌜ (in-range theta ≡ true → Eases grow theta r) ⌝ }
 {
     hold(theta * 1.05)
 }
 
 pub fn fallen(theta: f64) -> f64
     ensures value { λ r. ⌜ r ≡ scaled shrink theta ⌝ }
+    ensures law { λ r. ⌜ (in-range theta ≡ true → Eases shrink theta r) ⌝ }
 {
     hold(theta * 0.7)
 }
