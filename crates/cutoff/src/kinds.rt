@@ -3,6 +3,7 @@ ghost use mathlib.Core.Path.{_≡_};
 ghost use mathlib.Core.Bool.{true, false};
 ghost use Rattle.cutoff.specs.Theta.{grow, shrink, Nearest};
 ghost use Rattle.cutoff.specs.Cutoffs.{allowed, check-reply, number-of, eased, cuts-at};
+ghost use Rattle.cutoff.specs.Laws.{Moved, Cuts};
 use crate::theta::fallen;
 use crate::theta::in_bounds;
 use crate::theta::passes;
@@ -61,6 +62,8 @@ impl Cutoff {
     // θ becomes 1.05·θ under easing.
     pub fn rise(&mut self)
         ensures value { λ _. ⌜ now (self .exit) ≡ eased grow (now (self .entry)) ⌝ }
+        ensures range { λ _. ⌜ (allowed (now (self .entry)) ≡ true → allowed (now (self .exit)) ≡ true) ⌝ }
+        ensures law { λ _. ⌜ (allowed (now (self .entry)) ≡ true → Moved grow (now (self .entry)) (now (self .exit))) ⌝ }
     {
         if let Cutoff::Easing(theta) = self {
             *theta = risen(*theta);
@@ -70,6 +73,8 @@ impl Cutoff {
     // θ becomes 0.7·θ under easing.
     pub fn fall(&mut self)
         ensures value { λ _. ⌜ now (self .exit) ≡ eased shrink (now (self .entry)) ⌝ }
+        ensures range { λ _. ⌜ (allowed (now (self .entry)) ≡ true → allowed (now (self .exit)) ≡ true) ⌝ }
+        ensures law { λ _. ⌜ (allowed (now (self .entry)) ≡ true → Moved shrink (now (self .entry)) (now (self .exit))) ⌝ }
     {
         if let Cutoff::Easing(theta) = self {
             *theta = fallen(*theta);
@@ -79,6 +84,7 @@ impl Cutoff {
     // Whether a branch is cut: of n variables, with so many decisions and so many variables set.
     pub fn cuts(&self, n: u16, decisions: u16, set: u16) -> bool
         ensures value { λ r. ⌜ r ≡ cuts-at (now (self .entry)) n decisions set ⌝ }
+        ensures law { λ r. ⌜ (allowed (now (self .entry)) ≡ true → Cuts (now (self .entry)) n decisions set r) ⌝ }
     {
         match *self {
             Cutoff::Never => false,

@@ -6,7 +6,7 @@ ghost use lib.Dec.{T};
 ghost use lib.Ieee.{binary64, isNan, ofBits, toBits};
 ghost use Rattle.cutoff.specs.Theta.{in-range, held, scaled, grow, shrink};
 ghost use Rattle.cutoff.specs.Cutoffs.{exceeds};
-ghost use Rattle.cutoff.specs.Laws.{Eases};
+ghost use Rattle.cutoff.specs.Laws.{Eases, Exceeds};
 
 const LEAST: f64 = 0.001;
 const MOST: f64 = 1000000000.0;
@@ -40,7 +40,8 @@ pub fn fallen(theta: f64) -> f64
 
 // Whole numbers of 16 bits have a product of 32, and a double holds each of those exactly.
 pub fn passes(n: u16, theta: f64, decisions: u16, set: u16) -> bool
-    ensures { λ r. ⌜ r ≡ exceeds n theta (decisions * set) ⌝ }
+    ensures value { λ r. ⌜ r ≡ exceeds n theta (decisions * set) ⌝ }
+    ensures law { λ r. ⌜ (in-range theta ≡ true → Exceeds n theta (decisions * set) r) ⌝ }
 {
     let product = u32::from(decisions) * u32::from(set);
     product as f64 > theta * n as f64
