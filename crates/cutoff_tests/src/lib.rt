@@ -1,1 +1,3 @@
-//! Tests of the cutoff.
+//! Tests of the cutoff, by tables.
+#[cfg(test)]
+mod tables;
