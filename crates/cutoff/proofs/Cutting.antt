@@ -2,10 +2,10 @@
 use mathlib.Core.Path.{_≡_, refl, sym, subst, ap, _∙_}
 use mathlib.Core.Bool.{Bool, true, false, true≢false}
 use Prim.Native.Nat.{ℕ, zero, suc, _+_, _*_, _^_, _<_, _≤_}
-use native.Mathlib.Nat.{mul-one, mul-zero, mul-right-comm, mul-le-mul, mul-le-mul-right, zero-mul, mul-pos, lt-of-lt-of-le, mul-lt-mul-of-pos-right}
+use native.Mathlib.Nat.{mul-one, mul-zero, zero-mul, mul-right-comm, mul-le-mul, mul-le-mul-right, mul-lt-mul-of-pos-right, mul-pos, lt-of-lt-of-le}
 use native.Mathlib.Omega.{arith}
 use lib.Dec.{T, ltb, lit<, lit≤}
-use lib.IntN.{ℤ, pos}
+use lib.IntN.{pos}
 use lib.Pow.{shl-lt, pow-mono}
 use borrow.Author.Tests.{ltb-true, ltb-false, lt-ltb, le-ltb}
 use lib.Ieee.{Float, nan, inf, fin, binary64, round, mul, lt, le, ofInt, ofBits, up, down}
@@ -14,9 +14,11 @@ use lib.Ieee.Exact.{HasValue, round-exact}
 use lib.Ieee.Order.{le-of-values}
 use lib.Ieee.Scale.{finite}
 use lib.Ieee.Positive.{positive, num, den, den-pos, own-value, positive-of-value, mul-at, mul-mono, between}
+use Rattle.cutoff.specs.declared.kinds.Cutoff.{Cutoff}
+use Rattle.cutoff.specs.declared.kinds.Cutoff.the-variants.{Never, Depth, Share, Easing}
 use Rattle.cutoff.specs.Theta.{least, most, in-range}
-use Rattle.cutoff.specs.Cutoffs.{exceeds}
-use Rattle.cutoff.specs.Laws.{times, Exceeds}
+use Rattle.cutoff.specs.Cutoffs.{allowed, exceeds, cuts-at}
+use Rattle.cutoff.specs.Laws.{times, Exceeds, Cuts}
 use Rattle.cutoff.proofs.Ranges.{low-end, high-end, range-positive, least-positive, most-positive}
 
 abbrev whole : ℕ → Float
@@ -91,20 +93,22 @@ some-positive θ n r l h =
     (mul-mono binary64 least θ (whole 1) (whole n) least-positive p one q (low-end θ r) (whole-le 1 n (omega arith) (lit< tt) i))
     (mul-mono binary64 θ most (whole n) (whole 65536) p most-positive q many (high-end θ r) (whole-le n 65536 (omega arith) i (lit< tt)))
 
--- so θ·n is a finite number that is not negative, some a / c
+-- so θ·n is the exact product, rounded once, and a finite number that is not negative
 pub record Product (θ : Float) (n : ℕ) : Type 0 where
   pub rounded : mul binary64 θ (whole n) ≡ times θ n 1
-  pub top : ℕ
-  pub bottom : ℕ
-  pub value : HasValue (times θ n 1) false top bottom
+  pub value : HasValue (times θ n 1) false (num (times θ n 1)) (den (times θ n 1))
+
+own-fraction : (x : Float) (a c : ℕ) → HasValue x false a c → HasValue x false (num x) (den x)
+own-fraction nan a c h = h
+own-fraction (inf s) a c h = h
+own-fraction (fin s m e) a c h = (h .0, refl)
 
 product : (θ : Float) (n : ℕ) → in-range θ ≡ true → n < 65536 → Product θ n
-product θ zero r h = record { rounded = mul-none θ (range-positive θ r); top = num θ * 0; bottom = den θ * 1; value = times-none θ }
+product θ zero r h = record { rounded = mul-none θ (range-positive θ r); value = own-fraction (times θ 0 1) (num θ * 0) (den θ * 1) (times-none θ) }
 product θ (suc n) r h =
     let l : 0 < suc n = omega arith in
     let e = mul-some θ (suc n) (range-positive θ r) l (omega arith) in
-    let t = times θ (suc n) 1 in
-    record { rounded = e; top = num t; bottom = den t; value = own-value t (subst (λ (x : Float). T (positive x)) e (some-positive θ (suc n) r l h)) }
+    record { rounded = e; value = own-value (times θ (suc n) 1) (subst (λ (x : Float). T (positive x)) e (some-positive θ (suc n) r l h)) }
 
 value-finite : (x : Float) (a c : ℕ) → HasValue x false a c → T (finite x)
 value-finite nan a c h = absurd h
@@ -116,9 +120,19 @@ exceeding n θ k r h i =
     let x = product θ n r h in
     let t = times θ n 1 in
     record {
-        number = value-finite t (x .top) (x .bottom) (x .value);
-        greater = ap (λ (z : Float). lt z (whole k)) (x .rounded) ∙ below-whole t (whole k) (x .top) (x .bottom) k (x .value) (whole-value k i) }
+      number = value-finite t (num t) (den t) (x .value);
+      greater =
+          ap (λ (z : Float). lt z (whole k)) (x .rounded)
+          ∙ below-whole t (whole k) (num t) (den t) k (x .value) (whole-value k i);
+    }
 
--- decisions and set variables that 16 bits hold
-pub few : (a b : ℕ) → a < 65536 → b < 65536 → a * b < 2 ^ 53
+-- decisions and set variables that 16 bits hold have a product that a double holds
+few : (a b : ℕ) → a < 65536 → b < 65536 → a * b < 2 ^ 53
 few a b h k = let p : a * b ≤ 65535 * 65535 = mul-le-mul {n₂ = 65535} {m₂ = 65535} (omega arith) (omega arith) in omega arith
+
+-- the law for each kind
+pub cutting : (c : Cutoff) (n decisions set : ℕ) → n < 65536 → decisions < 65536 → set < 65536 → allowed c ≡ true → Cuts c n decisions set (cuts-at c n decisions set)
+cutting Never n d s h i j r = refl
+cutting (Depth k) n d s h i j r = refl
+cutting (Share θ) n d s h i j r = exceeding n θ (d * s) r h (few d s i j)
+cutting (Easing θ) n d s h i j r = exceeding n θ (d * s) r h (few d s i j)

@@ -2,18 +2,17 @@
 use mathlib.Core.Path.{_≡_, refl, sym, subst, ap, _∙_}
 use mathlib.Core.Bool.{Bool, true, false, cond, not, _||_}
 use Prim.Native.Nat.{ℕ, zero, suc, _*_}
-use native.Mathlib.Nat.{le-trans}
-use lib.Dec.{T, ltb}
-use borrow.Author.Tests.{le-ltb}
-use lib.Ieee.{Float, Format, nan, inf, fin, binary64, round, units, odd, mul, lt, le, eq, isNan, ofBits, low, prec, unlike, up, down}
+use lib.Dec.{T}
 use lib.IntN.{ℤ}
-use lib.Ieee.Bits.{is-true, is-false}
+use borrow.Author.Tests.{le-ltb}
+use lib.Ieee.{Float, Format, nan, inf, fin, binary64, round, units, odd, mul, lt, le, eq, isNan, ofBits, low, prec, up, down}
+use lib.Ieee.Bits.{is-false}
 use lib.Ieee.Fits.{round-is}
 use lib.Ieee.Positive.{positive, num, den, own-value, den-pos, mul-at, le→cross, le-trans-positive, above-of-le}
 use Rattle.cutoff.specs.declared.kinds.Cutoff.{Cutoff}
-use Rattle.cutoff.specs.declared.kinds.Cutoff.the-variants.{Never, Depth, Share, Easing}
+use Rattle.cutoff.specs.declared.kinds.Cutoff.the-variants.{Easing}
 use Rattle.cutoff.specs.Theta.{least, most, in-range, held, scaled}
-use Rattle.cutoff.specs.Cutoffs.{allowed, eased}
+use Rattle.cutoff.specs.Cutoffs.{allowed}
 use Rattle.cutoff.specs.Laws.{times, Eases, Moved}
 use Rattle.cutoff.proofs.Ranges.{passes, low-end, high-end, range-positive, range-number, least-positive, most-positive}
 
@@ -38,7 +37,7 @@ round-number : (f : Format) (s : Bool) (a b : ℕ) → T (not (isNan (round f s 
 round-number f s a b = rw (round-is f s a b) (units-number f s _ _)
 
 -- where x is at most y, y is not below x
-pub not-below : (x y : Float) → T (positive x) → T (positive y) → T (le x y) → lt y x ≡ false
+not-below : (x y : Float) → T (positive x) → T (positive y) → T (le x y) → lt y x ≡ false
 unfolding lt
 not-below nan y p q h = absurd p
 not-below (inf s) y p q h = absurd p
@@ -91,20 +90,26 @@ held-above : (x : Float) → lt most x ≡ true → held x ≡ most
 held-above x h = rw (above-not-below x h, h)
 
 -- the product of two doubles above zero is their exact product, rounded once
-pub mul-times : (θ by : Float) → T (positive θ) → T (positive by) → mul binary64 θ by ≡ times θ (num by) (den by)
+mul-times : (θ by : Float) → T (positive θ) → T (positive by) → mul binary64 θ by ≡ times θ (num by) (den by)
 mul-times θ by p q = mul-at binary64 θ by (num θ) (den θ) (num by) (den by) p q (den-pos θ) (den-pos by) (own-value θ p) (own-value by q)
 
--- that a product is no NaN is what holding it in range asks for
-pub product-number : (θ by : Float) → T (positive θ) → T (positive by) → T (not (isNan (mul binary64 θ by)))
-product-number θ by p q = rw (mul-times θ by p q) (round-number binary64 false _ _)
-
-pub eases : (by θ t : Float) → T (positive by) → in-range θ ≡ true → t ≡ scaled by θ → in-range t ≡ true → Eases by θ t
-eases by θ t q h e r =
+-- a product that is no NaN is held in range, and this one is none
+pub eases : (by θ t : Float) → T (positive by) → in-range θ ≡ true → t ≡ scaled by θ → (T (not (isNan (mul binary64 θ by))) → in-range t ≡ true) → Eases by θ t
+eases by θ t q h e g =
     let x = times θ (num by) (den by) in
-    let is : t ≡ held x = e ∙ ap held (mul-times θ by (range-positive θ h) q) in
+    let is = mul-times θ by (range-positive θ h) q in
+    let to : t ≡ held x = e ∙ ap held is in
+    let r = g (rw is (round-number binary64 false (num θ * num by) (den θ * den by))) in
     record {
-        within = λ k. is ∙ held-within x k;
-        below = λ k. is ∙ held-below x k;
-        above = λ k. is ∙ held-above x k;
-        range = r;
-        number = is-false (isNan t) (range-number t r) }
+      within = λ k. to ∙ held-within x k;
+      below = λ k. to ∙ held-below x k;
+      above = λ k. to ∙ held-above x k;
+      range = r;
+      number = is-false (isNan t) (range-number t r);
+    }
+
+pub easing-range : (c : Cutoff) (θ : Float) → c ≡ Easing θ → allowed c ≡ true → in-range θ ≡ true
+easing-range c θ is h = sym (ap allowed is) ∙ h
+
+pub moves : (by : Float) (c : Cutoff) (θ t : Float) → c ≡ Easing θ → Eases by θ t → Moved by c (Easing t)
+moves by c θ t is e = subst (λ (x : Cutoff). Moved by x (Easing t)) (sym is) (t, refl, e)

@@ -1,7 +1,6 @@
 //! When a branch is cut, and how easing moves the threshold.
 pub mod keeping;
 pub mod kinds;
-
 mod theta;
 
 pub use keeping::Kept;

@@ -1,14 +1,14 @@
 // The threshold's arithmetic: where it may lie, what it becomes, its bits, and the comparison that cuts.
 ghost use mathlib.Core.Path.{_≡_};
-ghost use mathlib.Core.Bool.{true, false, not};
+ghost use mathlib.Core.Bool.{true, not};
 ghost use Prim.Native.Nat.{_*_};
 ghost use lib.Dec.{T};
-ghost use lib.Ieee.{binary64, isNan, ofBits, toBits};
+ghost use lib.Ieee.{binary64, isNan, mul, ofBits, toBits};
 ghost use Rattle.cutoff.specs.Theta.{in-range, held, scaled, grow, shrink};
 ghost use Rattle.cutoff.specs.Cutoffs.{exceeds};
-ghost use Rattle.cutoff.specs.Laws.{Eases, Exceeds};
 
 const LEAST: f64 = 0.001;
+
 const MOST: f64 = 1000000000.0;
 
 pub fn in_bounds(theta: f64) -> bool
@@ -26,22 +26,21 @@ fn hold(x: f64) -> f64
 
 pub fn risen(theta: f64) -> f64
     ensures value { λ r. ⌜ r ≡ scaled grow theta ⌝ }
-    ensures law { λ r. ⌜ (in-range theta ≡ true → Eases grow theta r) ⌝ }
+    ensures range { λ r. ⌜ (T (not (isNan (mul binary64 theta grow))) → in-range r ≡ true) ⌝ }
 {
     hold(theta * 1.05)
 }
 
 pub fn fallen(theta: f64) -> f64
     ensures value { λ r. ⌜ r ≡ scaled shrink theta ⌝ }
-    ensures law { λ r. ⌜ (in-range theta ≡ true → Eases shrink theta r) ⌝ }
+    ensures range { λ r. ⌜ (T (not (isNan (mul binary64 theta shrink))) → in-range r ≡ true) ⌝ }
 {
     hold(theta * 0.7)
 }
 
 // Whole numbers of 16 bits have a product of 32, and a double holds each of those exactly.
 pub fn passes(n: u16, theta: f64, decisions: u16, set: u16) -> bool
-    ensures value { λ r. ⌜ r ≡ exceeds n theta (decisions * set) ⌝ }
-    ensures law { λ r. ⌜ (in-range theta ≡ true → Exceeds n theta (decisions * set) r) ⌝ }
+    ensures { λ r. ⌜ r ≡ exceeds n theta (decisions * set) ⌝ }
 {
     let product = u32::from(decisions) * u32::from(set);
     product as f64 > theta * n as f64

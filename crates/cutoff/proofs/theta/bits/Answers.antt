@@ -6,5 +6,6 @@ use Rattle.cutoff.proofs.theta.bits.Needs as need
 
 pub returns : need.returns
 returns c = record {
-    value = refl;
-    same = ofBits-toBits binary64 (c .args .theta) (passes (fits binary64 (c .args .theta)) (c .good .0 .1)) }
+  value = refl;
+  same = ofBits-toBits binary64 (c .args .theta) (passes (fits binary64 (c .args .theta)) (c .good .0 .1));
+}
