@@ -15,6 +15,7 @@ pub struct Kept {
 }
 
 impl Kept {
+    // Of a cutoff that was checked.
     pub fn keep(cutoff: Cutoff) -> Kept
         requires { ⌜ allowed cutoff ≡ true ⌝ }
         ensures kind { λ r. ⌜ r .kind ≡ kind-of cutoff ⌝ }

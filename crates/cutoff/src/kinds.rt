@@ -48,6 +48,7 @@ impl Cutoff {
         }
     }
 
+    // Refuses a cutoff that is out of range.
     pub fn check(&self) -> Result<(), Refusal>
         ensures value { λ r. ⌜ r ≡ check-reply (now (self .entry)) ⌝ }
         ensures nearest { λ _. ⌜ Nearest ⌝ }

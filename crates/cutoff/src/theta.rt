@@ -11,12 +11,14 @@ const LEAST: f64 = 0.001;
 
 const MOST: f64 = 1000000000.0;
 
+// A NaN is at neither side of either end, so it is out of bounds.
 pub fn in_bounds(theta: f64) -> bool
     ensures { λ r. ⌜ r ≡ in-range theta ⌝ }
 {
     (LEAST <= theta) & (theta <= MOST)
 }
 
+// Out of range, the nearer end.
 fn hold(x: f64) -> f64
     ensures value { λ r. ⌜ r ≡ held x ⌝ }
     ensures range { λ r. ⌜ (T (not (isNan x)) → in-range r ≡ true) ⌝ }
@@ -24,6 +26,7 @@ fn hold(x: f64) -> f64
     x.clamp(LEAST, MOST)
 }
 
+// One product, and it is held at once.
 pub fn risen(theta: f64) -> f64
     ensures value { λ r. ⌜ r ≡ scaled grow theta ⌝ }
     ensures range { λ r. ⌜ (T (not (isNan (mul binary64 theta grow))) → in-range r ≡ true) ⌝ }
@@ -46,6 +49,7 @@ pub fn passes(n: u16, theta: f64, decisions: u16, set: u16) -> bool
     product as f64 > theta * n as f64
 }
 
+// What is in range is no NaN, the only value whose bits would not be its own.
 pub fn bits(theta: f64) -> u64
     requires { ⌜ in-range theta ≡ true ⌝ }
     ensures value { λ r. ⌜ r ≡ toBits binary64 theta ⌝ }
