@@ -1,0 +1,3 @@
+mod Ranges
+mod Easing
+mod Cutting

@@ -1,0 +1,3 @@
+pub mod Theta
+pub mod Cutoffs
+pub mod Laws
