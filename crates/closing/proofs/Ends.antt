@@ -75,7 +75,7 @@ module _ (s : Store) where
     left-round p fit Clash m = refl
     left-round p fit (Force l) m = ap (λ k. left-in s k (put p l)) (sym (fewer p l fit m))
 
-    left-step : (p : List ℕ) → Partial (s .n) p → left s p ≡ left-by (left s) p (lowest-of s p)
+    pub left-step : (p : List ℕ) → Partial (s .n) p → left s p ≡ left-by (left s) p (lowest-of s p)
     unfolding left left-in
     left-step p fit = left-round p fit (lowest-of s p) (says s p keep fit)
 

@@ -9,7 +9,7 @@ use Rattle.stores.specs.Walks.{lowest-of}
 use Rattle.closing.specs.Closing.{Closing, clash, closes, close-by, close, left}
 use Rattle.closing.specs.Laws.{Closing-right}
 use Rattle.closing.proofs.Found.{lowest-is}
-use Rattle.closing.proofs.Ends.{Ends, ends, close-step}
+use Rattle.closing.proofs.Ends.{Ends, ends, close-step, left-step}
 
 module _ (s : Store) (keep : Keeps s) where
   -- where a closing that ends as c ends
@@ -25,13 +25,14 @@ module _ (s : Store) (keep : Keeps s) where
       record {
         lowest = lowest-is s;
         step = close-step s keep;
-        partial = λ p q fit e. closed p q fit e .fits;
+        fits = λ p q fit e. closed p q fit e .fits;
         sets-free = λ p q fit e. closed p q fit e .adds;
         keeps = λ p q fit e. closed p q fit e .ends-as .1;
         none-left = λ p fit e. at p fit clash e .ends-as .1;
         quiet = λ p q fit e. closed p q fit e .ends-as .0;
         again = λ p q fit e. let k = closed p q fit e in close-step s keep q (k .fits) ∙ ap (close-by (close s) q) (k .ends-as .0);
-        left-partial = λ p fit. ends s keep p fit .fits;
+        left-step = left-step s keep;
+        left-fits = λ p fit. ends s keep p fit .fits;
         left-sets-free = λ p fit. ends s keep p fit .adds;
         left-closed = λ p q fit e. at p fit (closes q) e .ends-as .2;
         left-clash = λ p fit e. at p fit clash e .ends-as .0;

@@ -9,7 +9,7 @@ use Rattle.stores.specs.declared.look.Find.{Find}
 use Rattle.stores.specs.declared.look.Find.the-variants.{Nothing, Clash, Force}
 use Rattle.stores.specs.Stores.{Store, Satisfies}
 use Rattle.stores.specs.Walks.{lowest-of}
-use Rattle.closing.specs.Closing.{Closing, clash, closes, close-by, close, left}
+use Rattle.closing.specs.Closing.{Closing, clash, closes, close-by, close, left-by, left}
 
 -- neither broken nor forcing
 abbrev pub Quiet : Look → Type 0
@@ -38,7 +38,7 @@ pub record Closing-right (s : Store) : Type 0 where
   -- the number of rounds does not matter: closing is its own first round, then closing
   pub step : (p : List ℕ) → Partial (s .n) p → close s p ≡ close-by (close s) p (lowest-of s p)
   -- closing only sets free variables
-  pub partial : (p q : List ℕ) → Partial (s .n) p → close s p ≡ closes q → Partial (s .n) q
+  pub fits : (p q : List ℕ) → Partial (s .n) p → close s p ≡ closes q → Partial (s .n) q
   pub sets-free : (p q : List ℕ) → Partial (s .n) p → close s p ≡ closes q → Extends q p
   -- every satisfying assignment that extends the partial before extends it after
   pub keeps : (p q : List ℕ) → Partial (s .n) p → close s p ≡ closes q → (a : List ℕ) → Satisfies s a → Extends a p → Extends a q
@@ -48,8 +48,9 @@ pub record Closing-right (s : Store) : Type 0 where
   pub quiet : (p q : List ℕ) → Partial (s .n) p → close s p ≡ closes q → lowest-of s q ≡ Nothing
   -- closing a closed partial changes nothing
   pub again : (p q : List ℕ) → Partial (s .n) p → close s p ≡ closes q → close s q ≡ closes q
-  -- what is left is the closed partial, or one with a broken rule; it has only set free variables in either case
-  pub left-partial : (p : List ℕ) → Partial (s .n) p → Partial (s .n) (left s p)
+  -- what is left is the closed partial, or the one in which the clash was met; in either case only free variables are set
+  pub left-step : (p : List ℕ) → Partial (s .n) p → left s p ≡ left-by (left s) p (lowest-of s p)
+  pub left-fits : (p : List ℕ) → Partial (s .n) p → Partial (s .n) (left s p)
   pub left-sets-free : (p : List ℕ) → Partial (s .n) p → Extends (left s p) p
   pub left-closed : (p q : List ℕ) → Partial (s .n) p → close s p ≡ closes q → left s p ≡ q
   pub left-clash : (p : List ℕ) → Partial (s .n) p → close s p ≡ clash → lowest-of s (left s p) ≡ Clash
