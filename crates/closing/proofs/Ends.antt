@@ -11,8 +11,9 @@ use Rattle.stores.specs.Stores.{Store, Satisfies, Keeps}
 use Rattle.stores.specs.Walks.{lowest-of}
 use Rattle.meaning.proofs.Keeps.{free-put}
 use Rattle.closing.specs.Closing.{Closing, clash, closes, close-by, close-in, close, left-by, left-in, left}
+use Rattle.closing.specs.Rounds.{ends-at, Went}
 use Rattle.closing.proofs.Partials.{put-partial, put-extends, put-adds, extends-self, extends-on}
-use Rattle.closing.proofs.Found.{Dead, Says, says}
+use Rattle.closing.proofs.Found.{Dead, Says, says, said}
 
 -- each satisfying assignment that extends p extends q
 abbrev pub Leads : Store → List ℕ → List ℕ → Type 0
@@ -35,7 +36,7 @@ module _ (s : Store) where
 
   module _ (keep : Keeps s) where
     -- a forced literal takes a free variable
-    pub fewer : (p : List ℕ) (l : ℤ) → Partial (s .n) p → Says s p (Force l) → suc (free (put p l)) ≡ free p
+    fewer : (p : List ℕ) (l : ℤ) → Partial (s .n) p → Says s p (Force l) → suc (free (put p l)) ≡ free p
     fewer p l fit m = free-put (s .n) p l (m .0) (fit .long) (m .1)
 
     ends-by : (k : ℕ) (p : List ℕ) → Partial (s .n) p → free p < suc k → (f : Find) → lowest-of s p ≡ f → Says s p f → ((u : List ℕ) → Partial (s .n) u → free u < k → Ends s u (left-in s k u) (close-in s k u)) → Ends s p (left-by (left-in s k) p f) (close-by (close-in s k) p f)
@@ -80,8 +81,15 @@ module _ (s : Store) where
     left-step p fit = left-round p fit (lowest-of s p) (says s p keep fit)
 
     -- one round of the code, by the answer f that its walk gave
-    pub close-on : (p : List ℕ) → Partial (s .n) p → (f : Find) → f ≡ lowest-of s p → close s p ≡ close-by (close s) p f
+    close-on : (p : List ℕ) → Partial (s .n) p → (f : Find) → f ≡ lowest-of s p → close s p ≡ close-by (close s) p f
     close-on p fit f e = close-step p fit ∙ ap (close-by (close s) p) (sym e)
 
-    pub left-on : (p : List ℕ) → Partial (s .n) p → (f : Find) → f ≡ lowest-of s p → left s p ≡ left-by (left s) p f
+    left-on : (p : List ℕ) → Partial (s .n) p → (f : Find) → f ≡ lowest-of s p → left s p ≡ left-by (left s) p f
     left-on p fit f e = left-step p fit ∙ ap (left-by (left s) p) (sym e)
+
+    pub went : (p : List ℕ) → Partial (s .n) p → (f : Find) → f ≡ lowest-of s p → Went s p (left-by (λ q. q) p f) (ends-at f)
+    went p fit Nothing e = (sym (close-on p fit Nothing e), sym (left-on p fit Nothing e))
+    went p fit Clash e = (sym (close-on p fit Clash e), sym (left-on p fit Clash e))
+    went p fit (Force l) e =
+        let few = fewer p l fit (said s p keep fit (Force l) e) in
+        (close-on p fit (Force l) e, left-on p fit (Force l) e, omega arith)

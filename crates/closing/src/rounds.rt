@@ -2,7 +2,9 @@
 ghost use mathlib.Core.Path.{_≡_};
 ghost use lib.ListN.{length};
 ghost use Rattle.rules.specs.Literals.{Literal, Partial, put};
-ghost use Rattle.closing.specs.Closing.{close as closing, left as leaving, ended, reply-of, close-reply, reply-left};
+ghost use Rattle.closing.specs.Closing.{close as closing, left as leaving, left-by, ended, reply-of, close-reply, reply-left};
+ghost use Rattle.closing.specs.Rounds.{ends-at, Went};
+ghost use Rattle.stores.specs.Walks.{lowest-of};
 ghost use Rattle.closing.specs.Laws.{Closing-right};
 use crate::ending::Ending;
 use stores::Find;
@@ -22,6 +24,25 @@ pub fn assign(partial: &mut [u8], literal: i32)
     }
 }
 
+// Goes over the rules once: sets what the lowest of them forces, or says how the closing ends.
+fn round<S: Rules>(store: &S, partial: &mut [u8]) -> Option<Ending>
+    requires { ⌜ Partial (S·Rules .means (now store) .n) (now partial) ⌝ }
+    ensures value { λ r. ⌜ r ≡ ends-at (lowest-of (S·Rules .means (now (store .entry))) (now (partial .entry))) ⌝ }
+    ensures leaves { λ _. ⌜ now (partial .exit) ≡ left-by (λ q. q) (now (partial .entry)) (lowest-of (S·Rules .means (now (store .entry))) (now (partial .entry))) ⌝ }
+    ensures goes { λ r. ⌜ Went (S·Rules .means (now (store .entry))) (now (partial .entry)) (now (partial .exit)) r ⌝ }
+    ensures fit { λ _. ⌜ Partial (S·Rules .means (now (store .entry)) .n) (now (partial .exit)) ⌝ }
+    ensures right { λ _. ⌜ Closing-right (S·Rules .means (now (store .entry))) ⌝ }
+{
+    match store.lowest(partial) {
+        Find::Nothing => Some(Ending::Closed),
+        Find::Clash => Some(Ending::Clash),
+        Find::Force(l) => {
+            assign(partial, l);
+            None
+        }
+    }
+}
+
 // Closes a partial that was checked. A clash leaves the partial in which it was met.
 pub fn close<S: Rules>(store: &S, partial: &mut [u8]) -> Ending
     requires { ⌜ Partial (S·Rules .means (now store) .n) (now partial) ⌝ }
@@ -31,10 +52,8 @@ pub fn close<S: Rules>(store: &S, partial: &mut [u8]) -> Ending
     ensures right { λ _. ⌜ Closing-right (S·Rules .means (now (store .entry))) ⌝ }
 {
     loop {
-        match store.lowest(partial) {
-            Find::Nothing => return Ending::Closed,
-            Find::Clash => return Ending::Clash,
-            Find::Force(l) => assign(partial, l),
+        if let Some(ending) = round(store, partial) {
+            return ending;
         }
     }
 }
