@@ -16,7 +16,6 @@ use tables::Tables;
 
 // rule 1 is 1 or 2, rule 2 is -3, and rule 3 is odd
 const CLAUSES: [i32; 5] = [1, 2, 0, -3, 0];
-
 const ODDS: [i32; 4] = [1, 2, 3, 0];
 
 #[test]
@@ -43,12 +42,7 @@ fn looks() -> Result<(), Fail> {
 }
 
 // A store joined with an odd table that is made here: the reply, and the looks if it is none.
-fn with_table<F: Rules>(
-    store: &F,
-    table: &[i32],
-    vars: usize,
-    rows: &[Row],
-) -> Result<(u32, usize), Fail> {
+fn with_table<F: Rules>(store: &F, table: &[i32], vars: usize, rows: &[Row]) -> Result<(u32, usize), Fail> {
     if Table::check(table, vars).is_err() {
         return Err(Fail::new("the table is refused"));
     }

@@ -20,8 +20,8 @@ returns c =
       joined = c .open .ensures .joined;
       means = λ text h. means-text h _
           (λ rs e. c .open .ensures .means rs
-          (subst (λ i. Filled (k .variables) rs (take i cs) (take (k .«odd_numbers» - 0) os)) (sym zc)
-          (subst (λ j. Filled (k .variables) rs (take (k .«clause_numbers») cs) (take j os)) (sym zo) e)));
+              (subst (λ i. Filled (k .variables) rs (take i cs) (take (k .«odd_numbers» - 0) os)) (sym zc)
+              (subst (λ j. Filled (k .variables) rs (take (k .«clause_numbers») cs) (take j os)) (sym zo) e)));
       counts = λ text h. record {
         variables = f .1 .1;
         clause-count = ap (λ t. length (parts (t .now))) (f .1 .0) ∙ (ap (λ i. length (parts (take i cs))) zc ∙ clauses-counted h);
