@@ -7,7 +7,7 @@ use Rattle.stores.specs.declared.look.Find.the-variants.{Nothing, Clash}
 use Rattle.stores.specs.Stores.{Store, Keeps}
 use Rattle.stores.specs.Walks.{lowest-of}
 use Rattle.closing.specs.Closing.{Closing, clash, closes, close-by, close, left}
-use Rattle.closing.specs.Laws.{Closing-right}
+use Rattle.closing.specs.Laws.{Lowest, Closing-right}
 use Rattle.closing.proofs.Found.{lowest-is}
 use Rattle.closing.proofs.Ends.{Ends, ends, close-step, left-step}
 
@@ -29,7 +29,8 @@ module _ (s : Store) (keep : Keeps s) where
         sets-free = λ p q fit e. closed p q fit e .adds;
         keeps = λ p q fit e. closed p q fit e .ends-as .1;
         none-left = λ p fit e. at p fit clash e .ends-as .1;
-        quiet = λ p q fit e. closed p q fit e .ends-as .0;
+        quiet = λ p q fit e. subst (Lowest s q) (closed p q fit e .ends-as .0) (lowest-is s q);
+        nothing = λ p q fit e. closed p q fit e .ends-as .0;
         again = λ p q fit e. let k = closed p q fit e in close-step s keep q (k .fits) ∙ ap (close-by (close s) q) (k .ends-as .0);
         left-step = left-step s keep;
         left-fits = λ p fit. ends s keep p fit .fits;

@@ -32,6 +32,7 @@ Lowest s p Nothing = (r : ℕ) → 1 ≤ r → r ≤ s .m → Quiet (s .look r p
 Lowest s p Clash = First s p Broken
 Lowest s p (Force l) = First s p (Forces l)
 
+-- the laws
 pub record Closing-right (s : Store) : Type 0 where
   -- each round goes by the lowest rule that is broken or forces
   pub lowest : (p : List ℕ) → Lowest s p (lowest-of s p)
@@ -45,7 +46,8 @@ pub record Closing-right (s : Store) : Type 0 where
   -- a clash means that there is none
   pub none-left : (p : List ℕ) → Partial (s .n) p → close s p ≡ clash → (a : List ℕ) → Satisfies s a → Extends a p → ⊥
   -- in a closed partial no rule is broken or forces
-  pub quiet : (p q : List ℕ) → Partial (s .n) p → close s p ≡ closes q → lowest-of s q ≡ Nothing
+  pub quiet : (p q : List ℕ) → Partial (s .n) p → close s p ≡ closes q → (r : ℕ) → 1 ≤ r → r ≤ s .m → Quiet (s .look r q)
+  pub nothing : (p q : List ℕ) → Partial (s .n) p → close s p ≡ closes q → lowest-of s q ≡ Nothing
   -- closing a closed partial changes nothing
   pub again : (p q : List ℕ) → Partial (s .n) p → close s p ≡ closes q → close s q ≡ closes q
   -- what is left is the closed partial, or the one in which the clash was met; in either case only free variables are set

@@ -2,9 +2,9 @@
 ghost use mathlib.Core.Path.{_≡_};
 ghost use lib.ListN.{length};
 ghost use Rattle.rules.specs.Literals.{Literal, Partial, put};
+ghost use Rattle.stores.specs.Walks.{lowest-of};
 ghost use Rattle.closing.specs.Closing.{close as closing, left as leaving, left-by, ended, reply-of, close-reply, reply-left};
 ghost use Rattle.closing.specs.Rounds.{ends-at, Went};
-ghost use Rattle.stores.specs.Walks.{lowest-of};
 ghost use Rattle.closing.specs.Laws.{Closing-right};
 use crate::ending::Ending;
 use stores::Find;
