@@ -50,6 +50,7 @@ fn refuses<S: Rules>(store: &S) -> Result<(), Fail> {
 
 // rules 1 to 3: 1 implies 2, 2 implies not 3, 4 or 3 or -2; rule 4: an odd number of 1, 3 and 4
 const CLAUSES: [i32; 10] = [-1, 2, 0, -2, -3, 0, 4, 3, -2, 0];
+
 const ODDS: [i32; 4] = [1, 3, 4, 0];
 
 const JOINED: [Row; 8] = [
