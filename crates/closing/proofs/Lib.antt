@@ -1,0 +1,4 @@
+pub mod Partials
+pub mod Found
+pub mod Ends
+pub mod Right
