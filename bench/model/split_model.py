@@ -1,4 +1,4 @@
-"""What `split` prints for an input: a second model, written from docs/ alone."""
+"""What `split` prints for an input: a second model, from the rules of the format, by the authors of the reader."""
 
 import re
 
