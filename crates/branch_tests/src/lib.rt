@@ -1,4 +1,6 @@
 //! Tests of trail and branch records.
+#![tactic(auto)]
+
 #[cfg(test)]
 mod decisions;
 #[cfg(test)]

@@ -1,4 +1,6 @@
 //! Trail and branch records: filling a partial from them, writing the current branch, deciding, and going back.
+#![tactic(auto)]
+
 mod filling;
 mod going;
 mod sides;

@@ -1,4 +1,6 @@
 //! Closing: setting what the rules of a store force, one literal after another.
+#![tactic(auto)]
+
 mod ending;
 mod rounds;
 

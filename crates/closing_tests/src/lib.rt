@@ -1,3 +1,5 @@
 //! Closings over tables, over a join, and over looks alone, held to what they end with and what they leave.
+#![tactic(auto)]
+
 mod closings;
 mod literals;

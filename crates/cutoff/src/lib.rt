@@ -1,4 +1,6 @@
 //! When a branch is cut, and how easing moves the threshold.
+#![tactic(auto)]
+
 pub mod keeping;
 pub mod kinds;
 mod theta;

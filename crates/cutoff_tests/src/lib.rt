@@ -1,4 +1,6 @@
 //! Tests of the cutoff, by tables.
+#![tactic(auto)]
+
 #[cfg(test)]
 mod holder;
 #[cfg(test)]

@@ -1,4 +1,6 @@
 //! A holder of cubes. A loan that it takes it settles, and to settle the cube once more it lends it again.
+#![tactic(auto)]
+
 use book::{Book, Mark, Word};
 use std::io;
 

@@ -1,4 +1,6 @@
 //! Entries as lines of text, written into lent bytes.
+#![tactic(auto)]
+
 pub mod widths;
 pub mod write;
 

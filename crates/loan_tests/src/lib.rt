@@ -1,3 +1,5 @@
 //! Tests of the book of loans.
+#![tactic(auto)]
+
 #[cfg(test)]
 mod books;

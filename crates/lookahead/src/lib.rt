@@ -1,4 +1,6 @@
 //! Lookahead: every free variable is tried both ways, and a node decides what becomes of a branch.
+#![tactic(auto)]
+
 mod cases;
 mod choosing;
 pub mod kinds;

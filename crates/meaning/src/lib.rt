@@ -1,4 +1,5 @@
 //! What a list of rules means as a store.
+#![tactic(auto)]
 
 // What the rules of a table are.
 #[derive(Clone, Copy, PartialEq, Eq, Debug)]

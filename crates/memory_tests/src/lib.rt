@@ -1,4 +1,6 @@
 //! Tests of the stack over lent memory and of the outlets.
+#![tactic(auto)]
+
 #[cfg(test)]
 mod outlets;
 #[cfg(test)]

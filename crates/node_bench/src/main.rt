@@ -1,5 +1,7 @@
 //! Works the root node of one question twenty times: can two adders of 64 bits, built in two ways, differ in a sum bit?
 //! bench/ has its twin.
+#![tactic(auto)]
+
 mod question;
 mod root;
 

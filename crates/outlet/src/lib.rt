@@ -1,4 +1,6 @@
 //! Where cubes and learnt clauses are written.
+#![tactic(auto)]
+
 ghost use Rattle.std.specs.Prelude.{◌≡◌, Bool, false, List, is_ok};
 ghost use Rattle.outlet.specs.Entries.{Entry, entry_of, put_reply, put_after, OutletLaws};
 

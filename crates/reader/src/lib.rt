@@ -1,4 +1,6 @@
 //! Rule files: a text is read whole, into two tables, or refused with a reason and a place.
+#![tactic(auto)]
+
 mod checking;
 pub mod counts;
 mod cursor;

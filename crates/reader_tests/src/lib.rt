@@ -1,4 +1,6 @@
 //! Tables of texts, each with what reading it answers, worked out by a model of the format in another language.
+#![tactic(auto)]
+
 #[cfg(test)]
 mod tests {
     use reader::read;

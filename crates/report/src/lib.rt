@@ -1,4 +1,6 @@
 //! What the program `split` writes for an input, as a function from bytes to bytes.
+#![tactic(auto)]
+
 mod counts;
 mod input;
 mod lines;

@@ -1,4 +1,6 @@
 // Reads a question from standard input, and writes what is found.
+#![tactic(auto)]
+
 ghost use Rattle.std.specs.Prelude.{◌≤◌, length, IfOk};
 
 use report::report;

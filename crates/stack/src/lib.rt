@@ -1,4 +1,6 @@
 //! A stack over lent memory, for elements of any kind that is copied.
+#![tactic(auto)]
+
 ghost use Rattle.std.specs.Prelude.{◌≡◌, ℕ, ◌+◌, ◌-◌, ◌<◌, ◌≤◌, min, true, false, List, [], ◌∷◌, ◌++◌, length, take, drop, if◌then◌else◌, MatchOption, nat_le, nat_lt, slice_index_or, slice_set};
 ghost use Rattle.stack.specs.Items.{items, spares, size, sound, has_room, push_reply, pushed, check_reply, number_of};
 

@@ -1,4 +1,6 @@
 //! Closes a chain of 2,000 variables twenty times over a joined store, one walk for each literal; bench/ has its twin.
+#![tactic(auto)]
+
 use std::io;
 use stores::{Find, Joined, Rules, is_partial};
 use tables::Tables;

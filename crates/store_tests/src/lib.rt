@@ -1,4 +1,6 @@
 //! Looks at each store, one table of looks for each, and what opening refuses.
+#![tactic(auto)]
+
 #[cfg(test)]
 mod clauses;
 #[cfg(test)]

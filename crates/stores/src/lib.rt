@@ -1,4 +1,6 @@
 //! A store of rules, its walks over all rules, and two stores joined.
+#![tactic(auto)]
+
 mod bylook;
 mod joined;
 mod look;

@@ -1,4 +1,6 @@
 //! Tables of clauses and of odd rules as stores: each walk goes over the table once.
+#![tactic(auto)]
+
 mod both;
 mod looks;
 mod opening;

@@ -1,4 +1,6 @@
 //! An outlet that writes a line of text for each entry.
+#![tactic(auto)]
+
 pub mod out;
 
 pub use out::TextOutlet;

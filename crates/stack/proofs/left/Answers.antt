@@ -3,4 +3,4 @@ use Rattle.stack.proofs.left.Goals as goal
 
 pub returns : goal.returns
 returns g c =
-    record { places = c.saturating-sub.ensures ∙ sym (length-drop c.args.from c.args.cells.now); number = c.saturating-sub.ensures }
+    record { places = c.saturating_sub.ensures ∙ sym (length-drop c.args.from c.args.cells.now); number = c.saturating_sub.ensures }

@@ -7,5 +7,5 @@ use Rattle.cutoff.proofs.theta.bits.Goals as goal
 pub returns : goal.returns
 returns c = record {
   value = refl;
-  same = of_bits-to_bits binary64 c.args.theta (passes (fits binary64 c.args.theta) c.well-formed.0.1);
+  same = of_bits-to_bits binary64 c.args.theta (passes (fits binary64 c.args.theta) c.well_formed.0.1);
 }

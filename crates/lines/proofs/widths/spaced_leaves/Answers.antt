@@ -10,7 +10,7 @@ returns-then-w-left c =
     let z = get_or ls c.loop-l.l-index (pos 0) in
     let k : to_z w32 (of_z w32 z) ≡ z = search rules in
     let e = spaced_long ls c.loop-l.l-index c.loop-l-test.true in
-    let q = simp k at c.signed-width-w.ensures in
+    let q = simp k at c.signed_width-w.ensures in
     omega (arith, c.loop-l.invariant, e, q.width)
 
 pub loop-l-preserved : goal.loop-l-preserved
@@ -19,7 +19,7 @@ loop-l-preserved c =
     let z = get_or ls c.loop-l.l-index (pos 0) in
     let k : to_z w32 (of_z w32 z) ≡ z = search rules in
     let e = spaced_long ls c.loop-l.l-index c.loop-l-test.true in
-    let q = simp k at c.signed-width-w.ensures in
+    let q = simp k at c.signed_width-w.ensures in
     omega (arith, c.loop-l.invariant, e, q.width)
 
 pub returns : goal.returns

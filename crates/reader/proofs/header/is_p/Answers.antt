@@ -2,14 +2,14 @@ use Rattle.std.proofs.Common.{◌≡◌, length, get_or, codes, rules}
 use Rattle.reader.proofs.Fields.{alike, other_length, other_byte}
 use Rattle.reader.proofs.header.is_p.Goals as goal
 
-pub returns-in-default : goal.returns-in-default
-returns-in-default c = let n : length c.args.word.now ≡ 1 → ⊥ = search rules in other_length c.args.word.now (codes "p") n
+pub returns-in_default : goal.returns-in_default
+returns-in_default c = let n : length c.args.word.now ≡ 1 → ⊥ = search rules in other_length c.args.word.now (codes "p") n
 
-pub returns-in-default·2 : goal.returns-in-default·2
-returns-in-default·2 c = let n : get_or c.args.word.now 0 0 ≡ 112 → ⊥ = search rules in other_byte c.args.word.now (codes "p") 0 n
+pub returns-in_default-2 : goal.returns-in_default-2
+returns-in_default-2 c = let n : get_or c.args.word.now 0 0 ≡ 112 → ⊥ = search rules in other_byte c.args.word.now (codes "p") 0 n
 
-pub returns-in-default·3 : goal.returns-in-default·3
-returns-in-default·3 c = let n : length c.args.word.now ≡ 1 → ⊥ = search rules in other_length c.args.word.now (codes "p") n
+pub returns-in_default-3 : goal.returns-in_default-3
+returns-in_default-3 c = let n : length c.args.word.now ≡ 1 → ⊥ = search rules in other_length c.args.word.now (codes "p") n
 
 pub returns : goal.returns
 returns c =

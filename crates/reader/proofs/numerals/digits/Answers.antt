@@ -5,20 +5,20 @@ use Rattle.reader.proofs.numerals.digits.Goals as goal
 pub loop-b-init : goal.loop-b-init
 loop-b-init c = reading_none _
 
-pub overflow-mul-value : goal.overflow-mul-value
-overflow-mul-value c = omega (arith, reading_fits c.loop-b.invariant (omega arith))
+pub overflow_mul-value : goal.overflow_mul-value
+overflow_mul-value c = omega (arith, reading_fits c.loop-b.invariant (omega arith))
 
-pub overflow-add-value : goal.overflow-add-value
-overflow-add-value c = omega (arith, reading_fits c.loop-b.invariant (omega arith), c.type-inv.word c.loop-b.b-index)
+pub overflow_add-value : goal.overflow_add-value
+overflow_add-value c = omega (arith, reading_fits c.loop-b.invariant (omega arith), c.type-inv.word c.loop-b.b-index)
 
 pub loop-b-preserved : goal.loop-b-preserved
 loop-b-preserved c =
-    let digit = c.if-not-is-ascii-digit.ensures in
+    let digit = c.if-not-is_ascii_digit.ensures in
     reading_more c.loop-b.invariant c.loop-b-test.true (sym digit.value) (omega (arith, digit.cases)) (omega (arith, digit.cases))
 
-pub returns-then-not-is-ascii-digit : goal.returns-then-not-is-ascii-digit
-returns-then-not-is-ascii-digit c =
-    record { value = reading_bad c.loop-b.invariant c.loop-b-test.true (sym c.if-not-is-ascii-digit.ensures.value); small = tt }
+pub returns-then-not-is_ascii_digit : goal.returns-then-not-is_ascii_digit
+returns-then-not-is_ascii_digit c =
+    record { value = reading_bad c.loop-b.invariant c.loop-b-test.true (sym c.if-not-is_ascii_digit.ensures.value); small = tt }
 
 pub returns : goal.returns
 returns c = record { value = reading_all c.loop-b.invariant (omega arith) (omega arith); small = reading_small c.loop-b.invariant (omega arith) }

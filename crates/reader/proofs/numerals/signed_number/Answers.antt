@@ -7,4 +7,4 @@ pub returns-in-45 : goal.returns-in-45
 returns-in-45 c =
     let some : 0 < length c.args.word.now = search rules in
     let first : get_or c.args.word.now 0 0 ≡ 45 = search rules in
-    c.negated-of.ensures ∙ (ap negated c.number.ensures.value ∙ sym (minus c.args.word.now some first))
+    c.negated_of.ensures ∙ (ap negated c.number.ensures.value ∙ sym (minus c.args.word.now some first))

@@ -10,7 +10,7 @@ returns-then-mark c =
     let s = c.args.marks.now in
     let some : 0 < nat_abs z = search rules in
     let low : nat_abs z ≤ c.args.variables = search rules in
-    let v : c.unsigned-abs-variable.result ≡ nat_abs z = search rules in
+    let v : c.unsigned_abs-variable.result ≡ nat_abs z = search rules in
     let hit = c.if-mark.ensures.value ∙ ap (λ k. eqb (get_or s.stamps (k - 1) 0) s.top) v in
     record {
       says = λ ls m. says_repeated _ z m some low c.requires (sym hit) ∙ ap (literal_says _ ls) c.in-Some.ensures;
@@ -25,7 +25,7 @@ returns c =
     let same : to_z w32 (of_z w32 z) ≡ z = search rules in
     let some : 0 < nat_abs z = search rules in
     let low : nat_abs z ≤ c.args.variables = search rules in
-    let v : c.unsigned-abs-variable.result ≡ nat_abs z = search rules in
+    let v : c.unsigned_abs-variable.result ≡ nat_abs z = search rules in
     let miss = c.if-mark.ensures.value ∙ ap (λ k. eqb (get_or s.stamps (k - 1) 0) s.top) v in
     let stamps = c.mark.ensures.stamps ∙ ap (λ k. set s.stamps (k - 1) s.top) v in
     record {

@@ -13,8 +13,8 @@ take_add (suc n) zero [] = simp unary_clauses refl
 take_add (suc n) (suc m) [] = simp unary_clauses refl
 take_add (suc n) m (x ∷ xs) = ap (λ j. take j (x ∷ xs)) (suc-add n m) ∙ ap (λ ys. x ∷ ys) (take_add n m xs)
 
-pub overflow-add-result : goal.overflow-add-result
-overflow-add-result g c =
+pub overflow_add-result : goal.overflow_add-result
+overflow_add-result g c =
     let xs = c.args.self.now.cells.now in
     let n = c.args.self.now.len in
     let long = length-drop n xs in
@@ -28,7 +28,7 @@ returns g c =
     let n = c.args.self.now.len in
     let k = c.args.k in
     let spare = drop n xs in
-    let e : c.fewer.result ≡ min k (length spare) = c.fewer.ensures ∙ ap (min k) c.spare-len.ensures in
+    let e : c.fewer.result ≡ min k (length spare) = c.fewer.ensures ∙ ap (min k) c.spare_len.ensures in
     let long = length-drop n xs in
     record {
       place = ap (λ m. n + m) e;

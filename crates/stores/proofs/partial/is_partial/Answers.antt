@@ -8,5 +8,5 @@ pub returns-then-bytes-vars : goal.returns-then-bytes-vars
 returns-then-bytes-vars c =
     let p = c.args.bytes.now in
     let n = c.args.vars in
-    let e : c.is-legal.result ≡ is_partial n p = c.is-legal.ensures ∙ ap (λ b. b && legal p) (sym (eq-eqb (length p) n c.if-bytes-vars.true)) in
+    let e : c.is_legal.result ≡ is_partial n p = c.is_legal.ensures ∙ ap (λ b. b && legal p) (sym (eq-eqb (length p) n c.if-bytes-vars.true)) in
     record { value = e; fits = λ h. partial_from n p (sym e ∙ h) }

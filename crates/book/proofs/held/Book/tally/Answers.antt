@@ -3,7 +3,7 @@ use Rattle.book.specs.declared.held.Mark.TheVariants.{Waiting}
 use Rattle.book.specs.Marks.{tally_of}
 use Rattle.book.proofs.Tallies.{tally_more}
 use Rattle.book.proofs.held.Book.tally.Goals as goal
-use Rattle.book.proofs.held.Book.tally.Goals.{then_same, else_same}
+use Rattle.book.proofs.held.Book.tally.Goals.{then-same, else-same}
 
 pub loop-i-preserved : goal.loop-i-preserved
 loop-i-preserved c =
@@ -15,6 +15,6 @@ loop-i-preserved c =
     let more : (x : _) → x ≡ c.loop-i.n + cond c.same.result 1 0 → x ≡ tally_of c.args.mark (take (c.loop-i.i + 1) b.marks) =
     λ x e. tally_more c.args.mark b.marks c.loop-i.i c.loop-i.n x Waiting c.same.result h c.same.ensures v.0 e in
     elim c.if-same.branch [
-      | then_same w ↦ (more c.if-same.n (w.n-is ∙ ap (λ z. c.loop-i.n + cond z 1 0) (sym w.if-same.true)), omega (arith, w.n-is), omega arith)
-      | else_same w ↦ (more c.if-same.n (w.n-is ∙ (let z : c.loop-i.n ≡ c.loop-i.n + 0 = omega arith in z) ∙ ap (λ z. c.loop-i.n + cond z 1 0) (sym w.if-same.false)), omega (arith, w.n-is), omega arith)
+      | then-same w ↦ (more c.if-same.n (w.n-is ∙ ap (λ z. c.loop-i.n + cond z 1 0) (sym w.if-same.true)), omega (arith, w.n-is), omega arith)
+      | else-same w ↦ (more c.if-same.n (w.n-is ∙ (let z : c.loop-i.n ≡ c.loop-i.n + 0 = omega arith in z) ∙ ap (λ z. c.loop-i.n + cond z 1 0) (sym w.if-same.false)), omega (arith, w.n-is), omega arith)
     ]

@@ -8,7 +8,7 @@ pub loop-i-preserved : goal.loop-i-preserved
 loop-i-preserved c =
     let ls = vec_items c.args.self.now.held in
     let h : c.loop-i.i < length ls = omega (arith, c.len.ensures) in
-    (count_next c.args.cube c.cube_at.result ls c.loop-i.i h c.cube_at.ensures c.if-cube-at-cube.false c.loop-i.invariant.0, omega arith)
+    (count_next c.args.cube c.cube_at.result ls c.loop-i.i h c.cube_at.ensures c.if-cube_at-cube.false c.loop-i.invariant.0, omega arith)
 
 pub returns : goal.returns
 returns c =

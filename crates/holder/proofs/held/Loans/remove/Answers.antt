@@ -3,8 +3,8 @@ use Rattle.holder.proofs.Counts.{taken_cube, taken_counts, taken_last}
 use Rattle.holder.proofs.Fresh.{taken_fresh, left_fresh}
 use Rattle.holder.proofs.held.Loans.remove.Goals as goal
 
-pub invariant-of-self : goal.invariant-of-self
-invariant-of-self c =
+pub invariant_of-self : goal.invariant_of-self
+invariant_of-self c =
     (left_fresh (vec_items c.args.self.now.held) (vec_items c.remove.new.self) c.args.i c.remove.result c.remove.ensures.value c.remove.ensures.items c.args.self.now.fresh, tt)
 
 pub returns : goal.returns

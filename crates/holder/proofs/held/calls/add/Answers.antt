@@ -6,6 +6,6 @@ use Rattle.holder.proofs.held.calls.add.Goals as goal
 pub returns : goal.returns
 returns c =
     record {
-      items = c.push-reserved.ensures.items;
-      fresh = λ h. subst (λ z. all_fresh z ≡ true) (sym c.push-reserved.ensures.items) (fresh_push (vec_items c.args.held.now) c.args.loan h c.requires.fresh);
+      items = c.push_reserved.ensures.items;
+      fresh = λ h. subst (λ z. all_fresh z ≡ true) (sym c.push_reserved.ensures.items) (fresh_push (vec_items c.args.held.now) c.args.loan h c.requires.fresh);
     }

@@ -13,11 +13,11 @@ returns c =
     let ls = c.args.lits.now in
     let k = c.args.kind in
     let ws = kind_number k ∷ pos (length ls) ∷ ls in
-    let after = c.write-at.new.cells in
+    let after = c.write_at.new.cells in
     let n = o.used + 2 + length ls in
     let room : n ≤ length cells = search rules in
     let u : o.used ≤ length cells = omega arith in
-    let w : after ≡ laid cells o.used ws = c.write-at.ensures in
+    let w : after ≡ laid cells o.used ws = c.write_at.ensures in
     let a : n ≡ o.used + length ws = omega arith in
     let long : length after ≡ length cells = ap length w ∙ laid_long cells ws o.used (omega arith) in
     record {

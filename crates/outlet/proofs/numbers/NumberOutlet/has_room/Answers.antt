@@ -6,6 +6,6 @@ pub returns : goal.returns
 returns c =
     let o = c.args.self.now in
     record {
-      value = c.fits-in.ensures;
-      fits = λ k es m. c.fits-in.ensures ∙ sym (fit_is o.cells.now o.used es k c.args.lits.now m.within m.held);
+      value = c.fits_in.ensures;
+      fits = λ k es m. c.fits_in.ensures ∙ sym (fit_is o.cells.now o.used es k c.args.lits.now m.within m.held);
     }

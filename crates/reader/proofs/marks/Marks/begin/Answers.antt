@@ -2,8 +2,8 @@ use Rattle.std.proofs.Common.{refl}
 use Rattle.reader.proofs.Stamps.{raised, marked_none}
 use Rattle.reader.proofs.marks.Marks.begin.Goals as goal
 
-pub invariant-of-self : goal.invariant-of-self
-invariant-of-self c = let s = c.args.self.now in (s.long, (raised s.top s.stamps s.old, tt))
+pub invariant_of-self : goal.invariant_of-self
+invariant_of-self c = let s = c.args.self.now in (s.long, (raised s.top s.stamps s.old, tt))
 
 pub returns : goal.returns
 returns c = let s = c.args.self.now in record { top = refl; none = marked_none s.top s.stamps s.old }

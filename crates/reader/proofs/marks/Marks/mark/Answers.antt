@@ -3,7 +3,7 @@ use Rattle.std.proofs.lemmas.List.{length-set}
 use Rattle.reader.proofs.Stamps.{stamped}
 use Rattle.reader.proofs.marks.Marks.mark.Goals as goal
 
-pub invariant-of-self : goal.invariant-of-self
-invariant-of-self c =
+pub invariant_of-self : goal.invariant_of-self
+invariant_of-self c =
     let s = c.args.self.now in
     (length-set s.stamps c.args.place s.top ∙ s.long, (stamped s.top c.args.place s.stamps s.old, tt))

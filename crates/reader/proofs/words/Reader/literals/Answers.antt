@@ -11,51 +11,51 @@ pub loop-word-init : goal.loop-word-init
 loop-word-init c = (refl, omega arith, refl, λ ls m. counting_none _ _ _ m)
 
 -- the word that was read stood first, in the text as it was lent
-here : (c : In-Some) → ahead c.args.self.now.text.now c.loop-word.self.at c.loop-word.self.mode ≡ token c.in-Some.word.place c.in-Some.word.bytes.now ∷ ahead c.args.self.now.text.now c.next-word.new.self.at c.next-word.new.self.mode
+here : (c : In-Some) → ahead c.args.self.now.text.now c.loop-word.self.at c.loop-word.self.mode ≡ token c.in-Some.word.place c.in-Some.word.bytes.now ∷ ahead c.args.self.now.text.now c.next_word.new.self.at c.next_word.new.self.mode
 here c =
-    subst (λ t. ahead t c.loop-word.self.at c.loop-word.self.mode ≡ token c.in-Some.word.place c.in-Some.word.bytes.now ∷ ahead t c.next-word.new.self.at c.next-word.new.self.mode)
+    subst (λ t. ahead t c.loop-word.self.at c.loop-word.self.mode ≡ token c.in-Some.word.place c.in-Some.word.bytes.now ∷ ahead t c.next_word.new.self.at c.next_word.new.self.mode)
     (ap (λ r. r.now) c.loop-word.invariant.0) c.in-Some.ensures.word.0
 
-pub returns-in-err-z : goal.returns-in-err-z
-returns-in-err-z c =
-    let p = err_from_is_err_and c.from-residual.result c.from-residual.ensures.1 in
-    let f = c.in-err-z.field-0.0 in
-    let k = c.in-err-z.ensures in
+pub returns-in_err-z : goal.returns-in_err-z
+returns-in_err-z c =
+    let p = err_from_is_err_and c.from_residual.result c.from_residual.ensures.1 in
+    let f = c.in_err-z.field-0.0 in
+    let k = c.in_err-z.ensures in
     let m = c.loop-word.invariant in
     rw (p.1, p.2) (record {
       text = c.in-Some.ensures.text ∙ m.0;
       on = tt;
       top = k.top ∙ m.2;
-      read = λ ls h. let q = m.3 ls h in counting_wrong q _ _ _ (here (goal.at.returns-in-err-z c).In-Some) f (k.says _ q.marked) (k.marked _ q.marked);
+      read = λ ls h. let q = m.3 ls h in counting_wrong q _ _ _ (here (goal.at.returns-in_err-z c).In-Some) f (k.says _ q.marked) (k.marked _ q.marked);
     })
 
 pub returns-then-z-eq0 : goal.returns-then-z-eq0
 returns-then-z-eq0 c =
-    let k = c.in-ok-z.ensures in
+    let k = c.in_ok-z.ensures in
     let m = c.loop-word.invariant in
-    let zero : nat_abs c.in-ok-z.z ≡ 0 = search rules in
+    let zero : nat_abs c.in_ok-z.z ≡ 0 = search rules in
     record {
       text = c.in-Some.ensures.text ∙ m.0;
       on = omega (arith, m.1, c.in-Some.ensures.word.1);
       top = k.top ∙ m.2;
-      read = λ ls h. let q = m.3 ls h in counting_ends q _ _ _ (here (goal.at.returns-then-z-eq0 c).In-Some) c.in-ok-z.z zero (k.says _ q.marked);
+      read = λ ls h. let q = m.3 ls h in counting_ends q _ _ _ (here (goal.at.returns-then-z-eq0 c).In-Some) c.in_ok-z.z zero (k.says _ q.marked);
     }
 
 pub loop-word-preserved : goal.loop-word-preserved
 loop-word-preserved c =
-    let k = c.in-ok-z.ensures in
+    let k = c.in_ok-z.ensures in
     let m = c.loop-word.invariant in
-    let some : nat_abs c.in-ok-z.z ≡ 0 → ⊥ = search rules in (
+    let some : nat_abs c.in_ok-z.z ≡ 0 → ⊥ = search rules in (
       c.in-Some.ensures.text ∙ m.0,
       omega (arith, m.1, c.in-Some.ensures.word.1),
       k.top ∙ m.2,
-      λ ls h. let q = m.3 ls h in counting_more q _ _ _ (here (goal.at.loop-word-preserved c).In-Some) c.in-ok-z.z some (k.says _ q.marked) (k.marked _ q.marked),
+      λ ls h. let q = m.3 ls h in counting_more q _ _ _ (here (goal.at.loop-word-preserved c).In-Some) c.in_ok-z.z some (k.says _ q.marked) (k.marked _ q.marked),
     )
 
 pub returns : goal.returns
 returns c =
     let m = c.loop-word.invariant in
-    let w = c.in-default.ensures in
+    let w = c.in_default.ensures in
     let same = ap (λ r. r.now) m.0 in
     record {
       text = w.text ∙ m.0;

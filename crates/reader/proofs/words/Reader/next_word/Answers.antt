@@ -8,29 +8,29 @@ use Rattle.reader.proofs.words.Reader.next_word.Goals as goal
 
 pub returns-then-start-self : goal.returns-then-start-self
 returns-then-start-self c =
-    let s = c.skip-gap.new.self in
+    let s = c.skip_gap.new.self in
     record {
-      text = c.skip-gap.ensures.text;
-      word = sym c.skip-gap.ensures.same ∙ nothing_ahead s.text.now s.at s.mode (omega arith);
+      text = c.skip_gap.ensures.text;
+      word = sym c.skip_gap.ensures.same ∙ nothing_ahead s.text.now s.at s.mode (omega arith);
     }
 
-pub invariant-of-self : goal.invariant-of-self
-invariant-of-self c = (c.run-end-end.ensures.within, tt)
+pub invariant_of-self : goal.invariant_of-self
+invariant_of-self c = (c.run_end-end.ensures.within, tt)
 
 pub returns : goal.returns
 returns c =
-    let s = c.skip-gap.new.self in
+    let s = c.skip_gap.new.self in
     let k = run Blank (drop s.at s.text.now) in
     let lt : s.at < length s.text.now = omega (arith, s.inside) in
-    let is = c.skip-gap.ensures.stops lt in
+    let is = c.skip_gap.ensures.stops lt in
     let told = word_ahead s.text.now s.at s.mode lt is in
     let some = word_some s.text.now s.at s.mode lt is in
-    let ends = c.run-end-end.ensures.end in
-    let size : k ≡ c.run-end-end.result - s.at = omega (arith, ends) in
+    let ends = c.run_end-end.ensures.end in
+    let size : k ≡ c.run_end-end.result - s.at = omega (arith, ends) in
     record {
-      text = c.skip-gap.ensures.text;
+      text = c.skip_gap.ensures.text;
       word = (
-        sym c.skip-gap.ensures.same ∙ (told ∙ (λ i. token s.at (take (size i) (drop s.at s.text.now)) ∷ ahead (c.skip-gap.ensures.text i).now (sym ends i) Within)),
-        omega (arith, c.skip-gap.ensures.on, some, ends),
+        sym c.skip_gap.ensures.same ∙ (told ∙ (λ i. token s.at (take (size i) (drop s.at s.text.now)) ∷ ahead (c.skip_gap.ensures.text i).now (sym ends i) Within)),
+        omega (arith, c.skip_gap.ensures.on, some, ends),
       );
     }

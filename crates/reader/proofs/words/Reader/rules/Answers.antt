@@ -8,23 +8,23 @@ use Rattle.reader.proofs.words.Reader.rules.Goals as goal
 pub loop-shape-init : goal.loop-shape-init
 loop-shape-init c = (refl, omega (arith, c.new-marks.ensures), omega arith, omega arith, gathered_none _ _ _)
 
-pub returns-in-err-shape : goal.returns-in-err-shape
-returns-in-err-shape c =
-    let p = err_from_is_err_and c.from-residual.result c.from-residual.ensures.1 in
-    let k = c.in-err-shape.ensures in
+pub returns-in_err-shape : goal.returns-in_err-shape
+returns-in_err-shape c =
+    let p = err_from_is_err_and c.from_residual.result c.from_residual.ensures.1 in
+    let k = c.in_err-shape.ensures in
     let s = c.loop-shape.self in
     let x = c.rule.new.self in
     let same = ap (λ r. r.now) c.loop-shape.invariant.0 in
     rw (p.1, p.2) (record {
       text = k.text ∙ c.loop-shape.invariant.0;
       few = tt;
-      read = gathered_fault c.loop-shape.invariant.4 c.in-err-shape.field-0.0
-          (subst (λ t. RuleRead c.args.variables (length t) (ahead t s.at s.mode) (ahead t x.at x.mode) (Err c.in-err-shape.field-0.0)) same k.read);
+      read = gathered_fault c.loop-shape.invariant.4 c.in_err-shape.field-0.0
+          (subst (λ t. RuleRead c.args.variables (length t) (ahead t s.at s.mode) (ahead t x.at x.mode) (Err c.in_err-shape.field-0.0)) same k.read);
     })
 
 pub loop-shape-preserved : goal.loop-shape-preserved
 loop-shape-preserved c =
-    let k = c.in-ok-shape.ensures in
+    let k = c.in_ok-shape.ensures in
     let s = c.loop-shape.self in
     let x = c.rule.new.self in
     let m = c.loop-shape.invariant in
@@ -42,13 +42,13 @@ loop-shape-preserved c =
 
 pub returns : goal.returns
 returns c =
-    let k = c.in-ok-shape.ensures in
+    let k = c.in_ok-shape.ensures in
     let s = c.loop-shape.self in
     let x = c.rule.new.self in
     let same = ap (λ r. r.now) c.loop-shape.invariant.0 in
     let read =
     subst (λ t. RuleRead c.args.variables (length t) (ahead t s.at s.mode) (ahead t x.at x.mode) (Ok None)) same
-    (subst (λ o. RuleRead c.args.variables (length s.text.now) (ahead s.text.now s.at s.mode) (ahead s.text.now x.at x.mode) (Ok o)) c.in-default.is k.read) in
+    (subst (λ o. RuleRead c.args.variables (length s.text.now) (ahead s.text.now s.at s.mode) (ahead s.text.now x.at x.mode) (Ok o)) c.in_default.is k.read) in
     record {
       text = k.text ∙ c.loop-shape.invariant.0;
       few = omega (arith, c.loop-shape.invariant.2, s.inside, ap length same);

@@ -9,7 +9,7 @@ returns-then-fit g c =
     let s = g.F.Rules.means c.args.self.now.first.now in
     let t = g.G.Rules.means c.args.self.now.second.now in
     let p = c.args.partial.now in
-    λ all. c.all-settled.ensures ∙ ap (λ u. u && all_settled t p) (sym all) ∙ settled_both s t true c.if-fit.ensures p
+    λ all. c.all_settled.ensures ∙ ap (λ u. u && all_settled t p) (sym all) ∙ settled_both s t true c.if-fit.ensures p
 
 pub returns-else-fit : goal.returns-else-fit
 returns-else-fit g c =

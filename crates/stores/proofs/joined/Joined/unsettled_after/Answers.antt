@@ -11,8 +11,8 @@ returns-then-not-fit g c =
     let p = c.args.partial.now in
     λ none. ap (beyond s.m) (sym (unsettled_end t p 0 1 refl)) ∙ ap (λ u. or_later u (beyond s.m (unsettled_from t p 0 1))) (sym none) ∙ unsettled_both s t false c.if-not-fit.ensures p
 
-pub overflow-add-result : goal.overflow-add-result
-overflow-add-result g c =
+pub overflow_add-result : goal.overflow_add-result
+overflow_add-result g c =
     let t = g.G.Rules.means c.args.self.now.second.now in
     let low = unsettled_few t c.args.partial.now t.m 1 (omega arith) in
     omega (arith, low, g.F.Rules.laws.few_rules c.args.self.now.first.now, g.G.Rules.laws.few_rules c.args.self.now.second.now, c.rules.ensures, c.unsettled-rule.ensures)
