@@ -8,7 +8,7 @@ pub struct Marks {
     stamps: [usize; 2048],
     top: usize,
     ghost long: { length stamps ≡ 2048 },
-    ghost old: { none_above top stamps ≡ true },
+    ghost none_later: { none_above top stamps ≡ true },
 }
 
 impl Marks {

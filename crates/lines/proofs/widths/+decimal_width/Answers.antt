@@ -12,4 +12,4 @@ returns-else-n-lt10 t c =
     let f20 : c.args.n < 10 ^ 20 = omega arith in
     let e = more c.args.n c.if-n-lt10.false f in
     let b = length-decimal-le 20 c.args.n (lit< tt) f20 f in
-    record { width = omega (arith, e, c.decimal-width.ensures.width); bound = omega (arith, e, b, c.decimal-width.ensures.width) }
+    record { width = omega (arith, e, c.decimal_width.ensures.width); bound = omega (arith, e, b, c.decimal_width.ensures.width) }

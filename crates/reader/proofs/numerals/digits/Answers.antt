@@ -9,7 +9,7 @@ pub overflow_mul-value : goal.overflow_mul-value
 overflow_mul-value c = omega (arith, reading_fits c.loop-b.invariant (omega arith))
 
 pub overflow_add-value : goal.overflow_add-value
-overflow_add-value c = omega (arith, reading_fits c.loop-b.invariant (omega arith), c.type-inv.word c.loop-b.b-index)
+overflow_add-value c = omega (arith, reading_fits c.loop-b.invariant (omega arith), c.type_inv.word c.loop-b.b-index)
 
 pub loop-b-preserved : goal.loop-b-preserved
 loop-b-preserved c =

@@ -9,8 +9,8 @@ use Rattle.tables.proofs.scan.tally_at.Goals as goal
 pub loop-i-init : goal.loop-i-init
 loop-i-init c = scan_starts _ _ _ c.requires.0 c.requires.1
 
-pub byte-of-requires : goal.byte-of-requires
-byte-of-requires c =
+pub byte_of-requires : goal.byte_of-requires
+byte_of-requires c =
     let z : ℤ = get_or c.args.table.now c.loop-i.i (pos 0) in
     let f : SFits w32 z = search rules in
     subst (Literal (length c.args.partial.now)) (sym (to_z-of_z w32 z f)) (scan_literal c.loop-i.invariant z refl (lit_bits z c.loop-i-test.true))
@@ -22,7 +22,7 @@ loop-i-preserved c =
     let z : ℤ = to_z w32 (of_z w32 y) in
     let e : z ≡ y = to_z-of_z w32 y f in
     let lit : is_end z ≡ false = ap is_end e ∙ lit_bits y c.loop-i-test.true in
-    scan_more c.loop-i.invariant z e lit c.byte-of.result _ _ _ c.byte-of.ensures c.with-tally.ensures.trues c.with-tally.ensures.free c.with-tally.ensures.last
+    scan_more c.loop-i.invariant z e lit c.byte_of.result _ _ _ c.byte_of.ensures c.with-tally.ensures.trues c.with-tally.ensures.free c.with-tally.ensures.last
 
 pub returns : goal.returns
 returns c =

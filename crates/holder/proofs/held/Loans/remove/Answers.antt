@@ -5,7 +5,7 @@ use Rattle.holder.proofs.held.Loans.remove.Goals as goal
 
 pub invariant_of-self : goal.invariant_of-self
 invariant_of-self c =
-    (left_fresh (vec_items c.args.self.now.held) (vec_items c.remove.new.self) c.args.i c.remove.result c.remove.ensures.value c.remove.ensures.items c.args.self.now.fresh, tt)
+    record { fresh = left_fresh (vec_items c.args.self.now.held) (vec_items c.remove.new.self) c.args.i c.remove.result c.remove.ensures.value c.remove.ensures.items c.args.self.now.fresh }
 
 pub returns : goal.returns
 returns c =

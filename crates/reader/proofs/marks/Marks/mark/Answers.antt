@@ -6,4 +6,4 @@ use Rattle.reader.proofs.marks.Marks.mark.Goals as goal
 pub invariant_of-self : goal.invariant_of-self
 invariant_of-self c =
     let s = c.args.self.now in
-    (length-set s.stamps c.args.place s.top ∙ s.long, (stamped s.top c.args.place s.stamps s.old, tt))
+    record { long = length-set s.stamps c.args.place s.top ∙ s.long; none_later = stamped s.top c.args.place s.stamps s.none_later }

@@ -15,7 +15,7 @@ returns-then-start-self c =
     }
 
 pub invariant_of-self : goal.invariant_of-self
-invariant_of-self c = (c.run_end-end.ensures.within, tt)
+invariant_of-self c = record { inside = c.run_end-end.ensures.within }
 
 pub returns : goal.returns
 returns c =

@@ -8,25 +8,25 @@ use Rattle.tables.proofs.looks.TableRules.gain.Goals as goal
 pub loop-at-init : goal.loop-at-init
 loop-at-init c = (walk_starts _ _ c.args.self.now.sound, (omega arith))
 
-pub gain-at-gained-requires : goal.gain-at-gained-requires
-gain-at-gained-requires c =
+pub gain_at-gained-requires : goal.gain_at-gained-requires
+gain_at-gained-requires c =
     let s = c.args.self.now in
     let b = ready c.loop-at.invariant.0 (omega arith) s.sound c.args.before.now c.requires.0.long in
     let d = ready c.loop-at.invariant.0 (omega arith) s.sound c.args.side.now c.requires.1.long in
     record { there = b.0; before = b.1; side = d.1 }
 
-pub overflow-add-total : goal.overflow-add-total
-overflow-add-total c =
+pub overflow_add-total : goal.overflow_add-total
+overflow_add-total c =
     let s = c.args.self.now in
     let t = s.table.now in
     let p = c.args.before.now in
     let q = c.args.side.now in
     let w = c.loop-at.invariant.0 in
     let low : c.loop-at.at < length t = omega arith in
-    let e = gain_step s.kind _ _ _ (walk_parts w low c.gain-at-gained.result.1 c.gain-at-gained.ensures.next) p q _ _ refl refl in
+    let e = gain_step s.kind _ _ _ (walk_parts w low c.gain_at-gained.result.1 c.gain_at-gained.ensures.next) p q _ _ refl refl in
     let few = gain_few s.kind s.vars (parts t) p q in
     let short = (opened_rules s.vars t s.sound).few_rules in
-    omega (arith, e, few, short, c.loop-at.invariant.1, c.gain-at-gained.ensures.gain)
+    omega (arith, e, few, short, c.loop-at.invariant.1, c.gain_at-gained.ensures.gain)
 
 pub loop-at-preserved : goal.loop-at-preserved
 loop-at-preserved c =
@@ -36,9 +36,9 @@ loop-at-preserved c =
     let q = c.args.side.now in
     let w = c.loop-at.invariant.0 in
     let low : c.loop-at.at < length t = omega arith in
-    let e = gain_step s.kind _ _ _ (walk_parts w low c.gain-at-gained.result.1 c.gain-at-gained.ensures.next) p q _ _ refl refl in (
-      walk_on w low c.gain-at-gained.result.1 c.gain-at-gained.ensures.next,
-      omega (arith, e, c.loop-at.invariant.1, c.gain-at-gained.ensures.gain),
+    let e = gain_step s.kind _ _ _ (walk_parts w low c.gain_at-gained.result.1 c.gain_at-gained.ensures.next) p q _ _ refl refl in (
+      walk_on w low c.gain_at-gained.result.1 c.gain_at-gained.ensures.next,
+      omega (arith, e, c.loop-at.invariant.1, c.gain_at-gained.ensures.gain),
     )
 
 pub returns : goal.returns

@@ -7,8 +7,8 @@ use Rattle.tables.proofs.looks.TableRules.lowest.Goals as goal
 pub loop-at-init : goal.loop-at-init
 loop-at-init c = (walk_starts _ _ c.args.self.now.sound, refl)
 
-pub rule-at-look-requires : goal.rule-at-look-requires
-rule-at-look-requires c =
+pub rule_at-look-requires : goal.rule_at-look-requires
+rule_at-look-requires c =
     let s = c.args.self.now in
     ready c.loop-at.invariant.0 (omega arith) s.sound c.args.partial.now c.requires.long
 
@@ -19,7 +19,7 @@ returns-in-Some c =
     let p = c.args.partial.now in
     let w = c.loop-at.invariant.0 in
     let low : c.loop-at.at < length t = omega arith in
-    sym (found_all s.kind s.vars (parts t) p ∙ c.loop-at.invariant.1 ∙ found_step s.kind _ _ _ (walk_parts w low c.rule-at-look.result.1 c.rule-at-look.ensures.next) p _ c.rule-at-look.ensures.look ∙ found_hit _ c.rule-at-look.result.0 c.in-Some.find c.in-Some.ensures)
+    sym (found_all s.kind s.vars (parts t) p ∙ c.loop-at.invariant.1 ∙ found_step s.kind _ _ _ (walk_parts w low c.rule_at-look.result.1 c.rule_at-look.ensures.next) p _ c.rule_at-look.ensures.look ∙ found_hit _ c.rule_at-look.result.0 c.in-Some.find c.in-Some.ensures)
 
 pub loop-at-preserved : goal.loop-at-preserved
 loop-at-preserved c =
@@ -28,8 +28,8 @@ loop-at-preserved c =
     let p = c.args.partial.now in
     let w = c.loop-at.invariant.0 in
     let low : c.loop-at.at < length t = omega arith in (
-      walk_on w low c.rule-at-look.result.1 c.rule-at-look.ensures.next,
-      c.loop-at.invariant.1 ∙ found_step s.kind _ _ _ (walk_parts w low c.rule-at-look.result.1 c.rule-at-look.ensures.next) p _ c.rule-at-look.ensures.look ∙ found_miss _ c.rule-at-look.result.0 c.in-default.ensures,
+      walk_on w low c.rule_at-look.result.1 c.rule_at-look.ensures.next,
+      c.loop-at.invariant.1 ∙ found_step s.kind _ _ _ (walk_parts w low c.rule_at-look.result.1 c.rule_at-look.ensures.next) p _ c.rule_at-look.ensures.look ∙ found_miss _ c.rule_at-look.result.0 c.in_default.ensures,
     )
 
 pub returns : goal.returns

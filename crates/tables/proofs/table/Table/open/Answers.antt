@@ -3,7 +3,7 @@ use Rattle.meaning.specs.Tables.{is_none}
 use Rattle.meaning.proofs.Tables.{opened_count}
 use Rattle.tables.proofs.table.Table.open.Goals as goal
 
-pub invariant-of-result : goal.invariant-of-result
-invariant-of-result c =
+pub invariant_of-result : goal.invariant_of-result
+invariant_of-result c =
     let o = ap is_none c.requires in
-    (o, (opened_count c.args.vars c.args.table.now o ∙ sym c.count-rules.ensures, tt))
+    record { sound = o; counted = opened_count c.args.vars c.args.table.now o ∙ sym c.count_rules.ensures }

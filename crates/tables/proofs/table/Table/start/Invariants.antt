@@ -4,4 +4,4 @@ use Rattle.tables.proofs.table.Table.start.Given as goal
 
 -- the rule k begins here
 abbrev pub invariant-loop-k : goal.invariant-loop-k
-invariant-loop-k l = l.at ≡ start_of (parts l.self.table.now) l.-k
+invariant-loop-k l = l.at ≡ start_of (parts l.self.table.now) l._k

@@ -17,19 +17,19 @@ returns c =
     let room : o.used + length ws ≤ length bytes = leb-true (o.used + length ws) (length bytes) (and_parts (ltb n (2 ^ 64 - 1)) (leb (o.used + length ws) (length bytes)) c.requires).1 in
     let u : o.used ≤ length bytes = omega arith in
     let q : c.count-n.result + 1 ≡ n + 1 = ap (λ x. x + 1) c.count-n.ensures in
-    let after = c.put-line-self.new.bytes in
-    let w : after ≡ laid bytes o.used ws = c.put-line-self.ensures.memory ∙ ap (λ x. laid bytes o.used (line k x ls)) q in
-    let a : c.put-line-self.result ≡ o.used + length ws = c.put-line-self.ensures.end ∙ ap (λ x. o.used + length (line k x ls)) q in
+    let after = c.put_line-self.new.bytes in
+    let w : after ≡ laid bytes o.used ws = c.put_line-self.ensures.memory ∙ ap (λ x. laid bytes o.used (line k x ls)) q in
+    let a : c.put_line-self.result ≡ o.used + length ws = c.put_line-self.ensures.end ∙ ap (λ x. o.used + length (line k x ls)) q in
     let long : length after ≡ length bytes = ap length w ∙ laid_long bytes ws o.used room in
     let more = c.counted-cubes.ensures in
     record {
       entries = λ es m. record {
         within = omega (arith, a, long, room);
-        held = laid_held bytes ws after o.used c.put-line-self.result u a w ∙ ap (λ x. x ++ ws) m.held ∙ text_next o es m k ls;
+        held = laid_held bytes ws after o.used c.put_line-self.result u a w ∙ ap (λ x. x ++ ws) m.held ∙ text_next o es m k ls;
         cubes = more.0 ∙ ap (λ x. x + of_kind k 1 0) m.cubes ∙ sym (cubes_push es k ls);
         learnt = more.1 ∙ ap (λ x. x + of_kind k 0 1) m.learnt ∙ sym (learnt_push es k ls);
-        narrow = narrow_push es k ls m.narrow c.put-line-self.ensures.narrow;
+        narrow = narrow_push es k ls m.narrow c.put_line-self.ensures.narrow;
       };
       size = long;
-      kept = record { same = refl; grew = laid_grew bytes ws after o.used c.put-line-self.result u a w };
+      kept = record { same = refl; grew = laid_grew bytes ws after o.used c.put_line-self.result u a w };
     }

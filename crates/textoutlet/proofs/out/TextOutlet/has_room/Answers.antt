@@ -25,6 +25,6 @@ returns c =
     let t : ltb n (2 ^ 64 - 1) ≡ true = lt-ltb n (2 ^ 64 - 1) (omega arith) in
     let u : o.used ≤ size = search rules in
     let s : size < 2 ^ 64 = search rules in
-    let v : c.line-fits.result ≡ room_for o k ls = rw t (c.line-fits.ensures k ∙ ap (λ x. leb (length (line k (x + 1) ls)) (size - o.used)) e
+    let v : c.line_fits.result ≡ room_for o k ls = rw t (c.line_fits.ensures k ∙ ap (λ x. leb (length (line k (x + 1) ls)) (size - o.used)) e
     ∙ same_leb (length (line k (n + 1) ls)) (size - o.used) (o.used + length (line k (n + 1) ls)) size (λ q. omega arith) (λ q. omega arith)) in
     record { value = v; fits = λ es m. v ∙ sym (fit_is o es m s k ls) }
