@@ -11,8 +11,8 @@ use Rattle.lookahead.proofs.choosing.choose.Goals as goal
 abbrev nothing : Record
 nothing = record { decision = pos 0; height = 0; second = false }
 
-pub byte-of-requires : goal.byte-of-requires
-byte-of-requires c =
+pub byte_of-requires : goal.byte_of-requires
+byte_of-requires c =
     let ns = c.args.notes.now in
     let l = (get_or ns c.loop-note.note-index nothing).decision in
     let fit : SFits w32 l = search rules in
@@ -28,7 +28,7 @@ loop-note-preserved c =
     let fit : SFits w32 l = search rules in
     let same = to_z-of_z w32 l fit in
     let h = c.loop-note-test.true in
-    let byte : c.byte-of.result ≡ get_or p (place l) 0 = c.byte-of.ensures ∙ ap (λ z. get_or p (place z) 0) same in
+    let byte : c.byte_of.result ≡ get_or p (place l) 0 = c.byte_of.ensures ∙ ap (λ z. get_or p (place z) 0) same in
     ap (λ o. best_from p o (map noted (drop (i + 1) ns))) (c.better-top.ensures ∙ ap (λ u. better_if u top (noted (get_or ns i nothing))) byte)
     ∙ sym (at_drop_more (λ u. best_from p top (map noted u)) ns i nothing h)
     ∙ c.loop-note.invariant

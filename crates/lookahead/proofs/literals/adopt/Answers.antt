@@ -5,8 +5,8 @@ use Rattle.lookahead.specs.Answers.{set_all}
 use Rattle.lookahead.proofs.News.{each_in}
 use Rattle.lookahead.proofs.literals.adopt.Goals as goal
 
-pub adopt-at-requires : goal.adopt-at-requires
-adopt-at-requires c =
+pub adopt_at-requires : goal.adopt_at-requires
+adopt_at-requires c =
     let ls = c.args.literals.now in
     let k = c.loop-k.k in
     let h : k < length ls = omega arith in (
@@ -19,7 +19,7 @@ loop-k-preserved c =
     let ls = c.args.literals.now in
     let k = c.loop-k.k in
     let h : k < length ls = omega arith in
-    ap (λ u. set_all u (drop (k + 1) ls)) c.adopt-at.ensures ∙ sym (at_drop_more (set_all c.loop-k.partial) ls k (pos 0) h) ∙ c.loop-k.invariant
+    ap (λ u. set_all u (drop (k + 1) ls)) c.adopt_at.ensures ∙ sym (at_drop_more (set_all c.loop-k.partial) ls k (pos 0) h) ∙ c.loop-k.invariant
 
 pub returns : goal.returns
 returns c =

@@ -7,8 +7,8 @@ use Rattle.lookahead.proofs.News.{each_in}
 use Rattle.lookahead.proofs.Adopted.{adopts_held}
 use Rattle.lookahead.proofs.literals.adopt_held.Goals as goal
 
-pub adopt-if-held-requires : goal.adopt-if-held-requires
-adopt-if-held-requires c =
+pub adopt_if_held-requires : goal.adopt_if_held-requires
+adopt_if_held-requires c =
     let ls = c.args.literals.now in
     let i = c.loop-l.l-index in
     let l = get_or ls i (pos 0) in
@@ -25,7 +25,7 @@ loop-l-preserved c =
     let p = c.loop-l.partial in
     let r = c.args.other.now in
     let fit : SFits w32 l = search rules in
-    adopts_held p r ls i c.loop-l-test.true c.adopt-if-held.new.partial (c.adopt-if-held.ensures ∙ ap (λ z. cond (is_true r z) (put p z) p) (to_z-of_z w32 l fit)) ∙ c.loop-l.invariant
+    adopts_held p r ls i c.loop-l-test.true c.adopt_if_held.new.partial (c.adopt_if_held.ensures ∙ ap (λ z. cond (is_true r z) (put p z) p) (to_z-of_z w32 l fit)) ∙ c.loop-l.invariant
 
 pub returns : goal.returns
 returns c =

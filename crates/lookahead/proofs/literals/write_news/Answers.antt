@@ -5,7 +5,7 @@ use Rattle.rules.specs.Literals.{Literal, Each}
 use Rattle.lookahead.proofs.Sides.{news_literals}
 use Rattle.lookahead.proofs.News.{Writing, writing_starts, writing_none, writing_some, writing_room, writing_ends}
 use Rattle.lookahead.proofs.literals.write_news.Goals as goal
-use Rattle.lookahead.proofs.literals.write_news.Goals.{in-Some, in-default}
+use Rattle.lookahead.proofs.literals.write_news.Goals.{in-Some, in_default}
 
 pub loop-i-init : goal.loop-i-init
 loop-i-init c = writing_starts c.args.before.now c.args.after.now c.args.places.now c.requires.1.1
@@ -21,16 +21,16 @@ loop-i-preserved c =
     let i = c.loop-i.i in
     let k = c.loop-i.k in
     let cells = c.loop-i.places in
-    elim c.match-new-literal.branch [
+    elim c.match-new_literal.branch [
       | in-Some w ↦
           let l = w.in-Some.l in
           let fit : SFits w32 l = search rules in
           let wrote = writing_some p q cells i k c.loop-i-test.true c.requires.0 c.loop-i.invariant l (sym w.in-Some.ensures) in
-          subst (λ m. Writing p q c.match-new-literal.places (i + 1) m) (sym w.k-is)
+          subst (λ m. Writing p q c.match-new_literal.places (i + 1) m) (sym w.k-is)
           (subst (λ u. Writing p q u (i + 1) (k + 1)) (sym (w.places-is ∙ ap (set cells k) (to_z-of_z w32 l fit))) wrote)
-      | in-default w ↦
-          let wrote = writing_none p q cells i k c.loop-i-test.true c.requires.0 c.loop-i.invariant (sym w.in-default.ensures) in
-          subst (λ m. Writing p q c.match-new-literal.places (i + 1) m) (sym w.k-is) (subst (λ u. Writing p q u (i + 1) k) (sym w.places-is) wrote)
+      | in_default w ↦
+          let wrote = writing_none p q cells i k c.loop-i-test.true c.requires.0 c.loop-i.invariant (sym w.in_default.ensures) in
+          subst (λ m. Writing p q c.match-new_literal.places (i + 1) m) (sym w.k-is) (subst (λ u. Writing p q u (i + 1) k) (sym w.places-is) wrote)
     ]
 
 pub returns : goal.returns

@@ -5,7 +5,7 @@ use Rattle.lookahead.specs.Trials.{by_gains, pass, lookahead, rank_of, scored}
 use Rattle.lookahead.specs.Answers.{noted}
 use Rattle.lookahead.proofs.Passing.{Passing, free_mono, passing_starts, passing_set, passing_dead, note_room, passing_kept, passing_ranked, passing_ends, looks_clash, looks_on, moved}
 use Rattle.lookahead.proofs.looking.look_ahead.Goals as goal
-use Rattle.lookahead.proofs.looking.look_ahead.Goals.{then-is-free+in-Kept, then-is-free+in-Ranked, else-is-free}
+use Rattle.lookahead.proofs.looking.look_ahead.Goals.{then-is_free+in-Kept, then-is_free+in-Ranked, else-is_free}
 
 pub returns-in-Clash : goal.returns-in-Clash
 returns-in-Clash g c =
@@ -35,8 +35,8 @@ returns-in-Refuted g c =
     let high : i < s.n = omega (arith, c.close.ensures.fit.long, c.loop-i-test.true) in
     record {
       value =
-          looks_on s (by_gains s) c.args.partial.now q (sym c.in-default.ensures.value)
-          ∙ passing_dead s (by_gains s) q (length c.args.places.now) p notes i k high c.loop-i.invariant c.if-is-free.ensures
+          looks_on s (by_gains s) c.args.partial.now q (sym c.in_default.ensures.value)
+          ∙ passing_dead s (by_gains s) q (length c.args.places.now) p notes i k high c.loop-i.invariant c.if-is_free.ensures
           (c.in-Refuted.ensures.value (pass s (by_gains s) (s.n - (i + 1)) (i + 1)) (map noted (take k notes)));
       fit = c.trial.ensures.fit;
       few = tt;
@@ -51,7 +51,7 @@ pub bounds-notes-k : goal.bounds-notes-k
 bounds-notes-k g c =
     let s = g.S.Rules.means c.args.store.now in
     let high : c.loop-i.i < s.n = omega (arith, c.close.ensures.fit.long, c.loop-i-test.true) in
-    note_room s (by_gains s) c.close.new.partial (length c.args.places.now) c.loop-i.partial c.loop-i.notes c.loop-i.i c.loop-i.k high c.loop-i.invariant c.if-is-free.ensures
+    note_room s (by_gains s) c.close.new.partial (length c.args.places.now) c.loop-i.partial c.loop-i.notes c.loop-i.i c.loop-i.k high c.loop-i.invariant c.if-is_free.ensures
 
 pub loop-i-preserved : goal.loop-i-preserved
 loop-i-preserved g c =
@@ -65,16 +65,16 @@ loop-i-preserved g c =
     let notes = c.loop-i.notes in
     let high : i < s.n = omega (arith, c.close.ensures.fit.long, c.loop-i-test.true) in
     let go = pass s rank (s.n - (i + 1)) (i + 1) in
-    let to = moved s rank q room (i + 1) c.if-is-free.partial c.if-is-free.notes c.if-is-free.k in
-    elim c.if-is-free.branch [
-      | then-is-free+in-Kept w ↦
+    let to = moved s rank q room (i + 1) c.if-is_free.partial c.if-is_free.notes c.if-is_free.k in
+    elim c.if-is_free.branch [
+      | then-is_free+in-Kept w ↦
           to w.trial.new.partial notes k w.partial-is w.notes-is w.k-is
-          (passing_kept s rank q room p notes i k high c.loop-i.invariant w.if-is-free.ensures w.trial.new.partial w.trial.ensures.fit w.trial.ensures.adds (w.in-Kept.ensures.value go (map noted (take k notes))))
-      | then-is-free+in-Ranked w ↦
+          (passing_kept s rank q room p notes i k high c.loop-i.invariant w.if-is_free.ensures w.trial.new.partial w.trial.ensures.fit w.trial.ensures.adds (w.in-Kept.ensures.value go (map noted (take k notes))))
+      | then-is_free+in-Ranked w ↦
           to w.trial.new.partial (set notes k w.note.result) (k + 1) w.partial-is w.notes-is w.k-is
-          (passing_ranked s rank q room p notes i k high c.loop-i.invariant w.if-is-free.ensures w.trial.new.partial w.trial.ensures.fit w.trial.ensures.adds w.note.result (scored i (rank_of w.in-Ranked.yes w.in-Ranked.no)) w.note.ensures (w.in-Ranked.ensures.value go (map noted (take k notes))))
-      | else-is-free w ↦
-          to p notes k w.partial-is w.notes-is w.k-is (passing_set s rank q room p notes i k high c.loop-i.invariant w.if-is-free.ensures)
+          (passing_ranked s rank q room p notes i k high c.loop-i.invariant w.if-is_free.ensures w.trial.new.partial w.trial.ensures.fit w.trial.ensures.adds w.note.result (scored i (rank_of w.in-Ranked.yes w.in-Ranked.no)) w.note.ensures (w.in-Ranked.ensures.value go (map noted (take k notes))))
+      | else-is_free w ↦
+          to p notes k w.partial-is w.notes-is w.k-is (passing_set s rank q room p notes i k high c.loop-i.invariant w.if-is_free.ensures)
     ]
 
 pub returns : goal.returns
@@ -84,7 +84,7 @@ returns g c =
     let done : s.n ≤ c.loop-i.i = omega (arith, c.close.ensures.fit.long, c.loop-i-test.false) in
     record {
       value =
-          looks_on s (by_gains s) c.args.partial.now q (sym c.in-default.ensures.value)
+          looks_on s (by_gains s) c.args.partial.now q (sym c.in_default.ensures.value)
           ∙ passing_ends s (by_gains s) q (length c.args.places.now) c.loop-i.partial c.loop-i.notes c.loop-i.i c.loop-i.k done c.loop-i.invariant;
       fit = c.loop-i.invariant.fits;
       few = omega (arith, c.loop-i.invariant.notes_room);

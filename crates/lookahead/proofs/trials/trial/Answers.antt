@@ -25,11 +25,11 @@ pub returns-in-Neither : goal.returns-in-Neither
 returns-in-Neither g c =
     let s = g.S.Rules.means c.args.store.now in
     let p = c.args.partial.now in
-    let ends = ends_by c.try-side-first.result c.try-side-second.result side.Neither c.in-Neither.ensures in
+    let ends = ends_by c.try_side-first.result c.try_side-second.result side.Neither c.in-Neither.ensures in
     record {
       value = λ go xs.
-          no_side s (by_gains s) p c.args.i go xs c.try-side-first.result c.try-side-second.result c.try-side-first.new.side c.try-side-second.new.side
-          c.try-side-first.ensures.value c.try-side-second.ensures.value ends;
+          no_side s (by_gains s) p c.args.i go xs c.try_side-first.result c.try_side-second.result c.try_side-first.new.side c.try_side-second.new.side
+          c.try_side-first.ensures.value c.try_side-second.ensures.value ends;
       fit = c.requires.0;
       adds = extends_self p;
       low = tt;
@@ -39,60 +39,60 @@ pub returns-in-False : goal.returns-in-False
 returns-in-False g c =
     let s = g.S.Rules.means c.args.store.now in
     let p = c.args.partial.now in
-    let r = c.try-side-second.new.side in
-    let after = c.copy-from-slice.ensures.after in
-    let ends = ends_by c.try-side-first.result c.try-side-second.result side.False c.in-False.ensures in
+    let r = c.try_side-second.new.side in
+    let after = c.copy_from_slice.ensures.after in
+    let ends = ends_by c.try_side-first.result c.try_side-second.result side.False c.in-False.ensures in
     record {
       value = λ go xs.
-          false_side s (by_gains s) p c.args.i go xs c.try-side-first.result c.try-side-second.result c.try-side-first.new.side r
-          c.try-side-first.ensures.value c.try-side-second.ensures.value ends
+          false_side s (by_gains s) p c.args.i go xs c.try_side-first.result c.try_side-second.result c.try_side-first.new.side r
+          c.try_side-first.ensures.value c.try_side-second.ensures.value ends
           ∙ ap (λ u. go u xs) (sym after);
-      fit = subst (Partial s.n) (sym after) c.try-side-second.ensures.fit;
-      adds = subst (λ u. Extends u p) (sym after) (c.try-side-second.ensures.adds c.requires.1.1.1.1);
+      fit = subst (Partial s.n) (sym after) c.try_side-second.ensures.fit;
+      adds = subst (λ u. Extends u p) (sym after) (c.try_side-second.ensures.adds c.requires.1.1.1.1);
       low = tt;
     }
 
-pub slice-bounds-adopt-end : goal.slice-bounds-adopt-end
-slice-bounds-adopt-end g c = c.take-side-yes.ensures.few
+pub slice_bounds-adopt-end : goal.slice_bounds-adopt-end
+slice_bounds-adopt-end g c = c.take_side-yes.ensures.few
 
 pub adopt-requires : goal.adopt-requires
 adopt-requires g c =
-    let ends = ends_by c.try-side-first.result c.try-side-second.result side.True c.in-True.ensures in
-    let taken = c.take-side-yes.ensures.taken ends.0 in
-    written (length c.args.partial.now) c.take-side-yes.result.1 c.take-side-yes.new.places taken.literals
+    let ends = ends_by c.try_side-first.result c.try_side-second.result side.True c.in-True.ensures in
+    let taken = c.take_side-yes.ensures.taken ends.0 in
+    written (length c.args.partial.now) c.take_side-yes.result.1 c.take_side-yes.new.places taken.literals
 
 pub returns-in-True : goal.returns-in-True
 returns-in-True g c =
     let s = g.S.Rules.means c.args.store.now in
     let p = c.args.partial.now in
-    let q = c.try-side-first.new.side in
-    let k = c.take-side-yes.result.1 in
-    let ends = ends_by c.try-side-first.result c.try-side-second.result side.True c.in-True.ensures in
-    let taken = c.take-side-yes.ensures.taken ends.0 in
-    let fq = c.try-side-first.ensures.fit in
-    let adds = c.try-side-first.ensures.adds c.requires.1.1.1.1 in
+    let q = c.try_side-first.new.side in
+    let k = c.take_side-yes.result.1 in
+    let ends = ends_by c.try_side-first.result c.try_side-second.result side.True c.in-True.ensures in
+    let taken = c.take_side-yes.ensures.taken ends.0 in
+    let fq = c.try_side-first.ensures.fit in
+    let adds = c.try_side-first.ensures.adds c.requires.1.1.1.1 in
     let after : c.adopt.new.partial ≡ q =
-    c.adopt.ensures ∙ ap (λ j. set_all p (take j c.take-side-yes.new.places)) (whole k) ∙ ap (set_all p) taken.front ∙ set_news s.n p q c.requires.0 fq adds
+    c.adopt.ensures ∙ ap (λ j. set_all p (take j c.take_side-yes.new.places)) (whole k) ∙ ap (set_all p) taken.front ∙ set_news s.n p q c.requires.0 fq adds
     in
     record {
       value = λ go xs.
-          true_side s (by_gains s) p c.args.i go xs c.try-side-first.result c.try-side-second.result q c.try-side-second.new.side
-          c.try-side-first.ensures.value c.try-side-second.ensures.value ends
+          true_side s (by_gains s) p c.args.i go xs c.try_side-first.result c.try_side-second.result q c.try_side-second.new.side
+          c.try_side-first.ensures.value c.try_side-second.ensures.value ends
           ∙ ap (λ u. go u xs) (sym after);
       fit = subst (Partial s.n) (sym after) fq;
       adds = subst (λ u. Extends u p) (sym after) adds;
       low = tt;
     }
 
-pub slice-bounds-adopt-held-end : goal.slice-bounds-adopt-held-end
-slice-bounds-adopt-held-end g c = c.take-side-yes.ensures.few
+pub slice_bounds-adopt_held-end : goal.slice_bounds-adopt_held-end
+slice_bounds-adopt_held-end g c = c.take_side-yes.ensures.few
 
-pub adopt-held-requires : goal.adopt-held-requires
-adopt-held-requires g c =
-    let ends = ends_by c.try-side-first.result c.try-side-second.result side.Both c.in-Both.ensures in
-    let taken = c.take-side-yes.ensures.taken ends.0 in (
-      written (length c.args.partial.now) c.take-side-yes.result.1 c.take-side-yes.new.places taken.literals,
-      c.try-side-second.ensures.fit.long ∙ sym c.requires.0.long,
+pub adopt_held-requires : goal.adopt_held-requires
+adopt_held-requires g c =
+    let ends = ends_by c.try_side-first.result c.try_side-second.result side.Both c.in-Both.ensures in
+    let taken = c.take_side-yes.ensures.taken ends.0 in (
+      written (length c.args.partial.now) c.take_side-yes.result.1 c.take_side-yes.new.places taken.literals,
+      c.try_side-second.ensures.fit.long ∙ sym c.requires.0.long,
     )
 
 -- what both sides have set is set in the partial
@@ -105,12 +105,12 @@ pub close-requires : goal.close-requires
 close-requires g c =
     let s = g.S.Rules.means c.args.store.now in
     let p = c.args.partial.now in
-    let q = c.try-side-first.new.side in
-    let r = c.try-side-second.new.side in
-    let fq = c.try-side-first.ensures.fit in
-    let ends = ends_by c.try-side-first.result c.try-side-second.result side.Both c.in-Both.ensures in
-    let taken = c.take-side-yes.ensures.taken ends.0 in
-    let same = both_set s.n p q r c.adopt-held.new.partial c.take-side-yes.new.places c.take-side-yes.result.1 c.requires.0 fq c.try-side-second.ensures.fit (c.try-side-first.ensures.adds c.requires.1.1.1.1) c.adopt-held.ensures taken.front in
+    let q = c.try_side-first.new.side in
+    let r = c.try_side-second.new.side in
+    let fq = c.try_side-first.ensures.fit in
+    let ends = ends_by c.try_side-first.result c.try_side-second.result side.Both c.in-Both.ensures in
+    let taken = c.take_side-yes.ensures.taken ends.0 in
+    let same = both_set s.n p q r c.adopt_held.new.partial c.take_side-yes.new.places c.take_side-yes.result.1 c.requires.0 fq c.try_side-second.ensures.fit (c.try_side-first.ensures.adds c.requires.1.1.1.1) c.adopt_held.ensures taken.front in
     subst (Partial s.n) (sym same) (common_partial s.n p q r c.requires.0 fq)
 
 -- closing what both sides have set only adds to the partial
@@ -130,24 +130,24 @@ returns-in-Both g c =
     let few = g.S.Rules.laws.few_rules c.args.store.now in
     let p = c.args.partial.now in
     let i = c.args.i in
-    let q = c.try-side-first.new.side in
-    let r = c.try-side-second.new.side in
-    let u = c.adopt-held.new.partial in
+    let q = c.try_side-first.new.side in
+    let r = c.try_side-second.new.side in
+    let u = c.adopt_held.new.partial in
     let v = c.close.new.partial in
-    let fq = c.try-side-first.ensures.fit in
-    let adds = c.try-side-first.ensures.adds c.requires.1.1.1.1 in
-    let t = c.take-side-yes.result.0 in
+    let fq = c.try_side-first.ensures.fit in
+    let adds = c.try_side-first.ensures.adds c.requires.1.1.1.1 in
+    let t = c.take_side-yes.result.0 in
     let f = c.gain-no.result in
-    let ends = ends_by c.try-side-first.result c.try-side-second.result side.Both c.in-Both.ensures in
-    let taken = c.take-side-yes.ensures.taken ends.0 in
-    let same = both_set s.n p q r u c.take-side-yes.new.places c.take-side-yes.result.1 c.requires.0 fq c.try-side-second.ensures.fit adds c.adopt-held.ensures taken.front in
+    let ends = ends_by c.try_side-first.result c.try_side-second.result side.Both c.in-Both.ensures in
+    let taken = c.take_side-yes.ensures.taken ends.0 in
+    let same = both_set s.n p q r u c.take_side-yes.new.places c.take_side-yes.result.1 c.requires.0 fq c.try_side-second.ensures.fit adds c.adopt_held.ensures taken.front in
     let ranked : rank_of (gained s p q) (gained s p r) ≡ rank_of t f =
     ap (λ k. rank_of k (gained s p r)) (sym taken.gains) ∙ ap (rank_of t) (sym c.gain-no.ensures)
     in
     record {
       value = λ go xs.
-          both_sides s (by_gains s) p i go xs c.try-side-first.result c.try-side-second.result q r
-          c.try-side-first.ensures.value c.try-side-second.ensures.value ends c.close.result v (c.close.ensures.value ∙ ap (close s) same) t f ranked
+          both_sides s (by_gains s) p i go xs c.try_side-first.result c.try_side-second.result q r
+          c.try_side-first.ensures.value c.try_side-second.ensures.value ends c.close.result v (c.close.ensures.value ∙ ap (close s) same) t f ranked
           ∙ ap (λ k. goes_on k go v i xs) (sym c.ranked.ensures);
       fit = c.close.ensures.fit;
       adds = adds_on s keep p q r u v c.requires.0 fq adds same c.close.ensures.leaves;

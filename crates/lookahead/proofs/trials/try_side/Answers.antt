@@ -7,14 +7,14 @@ use Rattle.lookahead.specs.Answers.{side_byte}
 use Rattle.lookahead.proofs.Turns.{side_low, side_fits, side_adds}
 use Rattle.lookahead.proofs.trials.try_side.Goals as goal
 
-pub close-with-requires : goal.close-with-requires
-close-with-requires g c =
+pub close_with-requires : goal.close_with-requires
+close_with-requires g c =
     let n = (g.S.Rules.means c.args.store.now).n in
     let p = c.args.partial.now in
     let i = c.args.i in
     let b = c.args.positive in (
-      omega (arith, c.copy-from-slice.ensures.len, c.requires.1.0, c.requires.1.1),
-      subst (λ u. Partial n (set u i c.side_byte.result)) (sym c.copy-from-slice.ensures.after)
+      omega (arith, c.copy_from_slice.ensures.len, c.requires.1.0, c.requires.1.1),
+      subst (λ u. Partial n (set u i c.side_byte.result)) (sym c.copy_from_slice.ensures.after)
           (subst (λ k. Partial n (set p i k)) (sym c.side_byte.ensures) (side_fits n p i (side_byte b) (side_low b) c.requires.0)),
     )
 
@@ -26,13 +26,13 @@ returns g c =
     let i = c.args.i in
     let b = side_byte c.args.positive in
     let q = set p i b in
-    let begins : set c.copy-from-slice.new.self i c.side_byte.result ≡ q =
-    ap (λ u. set u i c.side_byte.result) c.copy-from-slice.ensures.after ∙ ap (set p i) c.side_byte.ensures
+    let begins : set c.copy_from_slice.new.self i c.side_byte.result ≡ q =
+    ap (λ u. set u i c.side_byte.result) c.copy_from_slice.ensures.after ∙ ap (set p i) c.side_byte.ensures
     in
     let fits = side_fits s.n p i b (side_low c.args.positive) c.requires.0 in
-    let adds = subst (λ u. Extends u q) (sym (c.close-with.ensures.leaves ∙ ap (left s) begins)) ((right s keep).left_sets_free q fits) in
+    let adds = subst (λ u. Extends u q) (sym (c.close_with.ensures.leaves ∙ ap (left s) begins)) ((right s keep).left_sets_free q fits) in
     record {
-      value = c.close-with.ensures.value ∙ ap (close s) begins;
-      fit = c.close-with.ensures.fit;
-      adds = λ e. extends_on c.close-with.new.side q p adds (side_adds p i b e);
+      value = c.close_with.ensures.value ∙ ap (close s) begins;
+      fit = c.close_with.ensures.fit;
+      adds = λ e. extends_on c.close_with.new.side q p adds (side_adds p i b e);
     }

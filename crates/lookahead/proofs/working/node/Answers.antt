@@ -13,14 +13,14 @@ use Rattle.lookahead.proofs.Right.{right}
 use Rattle.lookahead.proofs.Finished.{node_dead, node_alive, node_settled, filled_fits, each_of, decided_by}
 use Rattle.lookahead.proofs.working.node.Goals as goal
 
-pub returns-in-default : goal.returns-in-default
-returns-in-default g c =
+pub returns-in_default : goal.returns-in_default
+returns-in_default g c =
     let s = g.S.Rules.means c.args.store.now in
     record {
       value =
-          node_dead s (by_gains s) c.args.cutoff.now c.args.decisions c.args.partial.now c.fall.new.self c.in-default.ensures.value
+          node_dead s (by_gains s) c.args.cutoff.now c.args.decisions c.args.partial.now c.fall.new.self c.in_default.ensures.value
           (c.fall.ensures.value ∙ ap (eased shrink) c.rise.ensures.value);
-      fit = c.look-ahead.ensures.fit;
+      fit = c.look_ahead.ensures.fit;
       range = λ h. c.fall.ensures.range (c.rise.ensures.range h);
       right = right s (g.S.Rules.laws.keeps c.args.store.now);
     }
@@ -29,14 +29,14 @@ pub returns-then-settle : goal.returns-then-settle
 returns-then-settle g c =
     let s = g.S.Rules.means c.args.store.now in
     let d = c.args.decisions in
-    let q = c.look-ahead.new.partial in
+    let q = c.look_ahead.new.partial in
     let after = c.if-settle.ensures.leaves in
     record {
       value =
-          node_settled s (by_gains s) c.args.cutoff.now d c.args.partial.now c.deepen.new.cutoff q (map noted (take c.in-Some.k c.look-ahead.new.notes)) c.in-Some.ensures.value
+          node_settled s (by_gains s) c.args.cutoff.now d c.args.partial.now c.deepen.new.cutoff q (map noted (take c.in-Some.k c.look_ahead.new.notes)) c.in-Some.ensures.value
           (c.deepen.ensures.value ∙ ap (deepened d) c.rise.ensures.value) (sym c.if-settle.ensures.value)
           ∙ ap (λ u. worked c.deepen.new.cutoff outcome.Model u) (sym after);
-      fit = subst (Partial s.n) (sym after) (filled_fits s.n q c.look-ahead.ensures.fit);
+      fit = subst (Partial s.n) (sym after) (filled_fits s.n q c.look_ahead.ensures.fit);
       range = λ h. c.deepen.ensures.range (c.rise.ensures.range h);
       right = right s (g.S.Rules.laws.keeps c.args.store.now);
     }
@@ -46,20 +46,20 @@ asked_of : (e : Cutoff) (n d : ℕ) (q u : List ℕ) (b : Bool) → length q ≡
 asked_of e n d q u b long same asked =
     ap (λ m. cuts_at e m d (set_in q)) (sym long) ∙ ap (λ v. cuts_at e (length v) d (set_in v)) (sym same) ∙ sym asked
 
-pub returns-then-is-cut : goal.returns-then-is-cut
-returns-then-is-cut g c =
+pub returns-then-is_cut : goal.returns-then-is_cut
+returns-then-is_cut g c =
     let s = g.S.Rules.means c.args.store.now in
     let d = c.args.decisions in
-    let q = c.look-ahead.new.partial in
+    let q = c.look_ahead.new.partial in
     let u = c.settle.new.partial in
     let e = c.deepen.new.cutoff in
     let same = c.if-settle.ensures.leaves in
     record {
       value =
-          node_alive s (by_gains s) c.args.cutoff.now d c.args.partial.now e q (map noted (take c.in-Some.k c.look-ahead.new.notes)) false true c.in-Some.ensures.value
+          node_alive s (by_gains s) c.args.cutoff.now d c.args.partial.now e q (map noted (take c.in-Some.k c.look_ahead.new.notes)) false true c.in-Some.ensures.value
           (c.deepen.ensures.value ∙ ap (deepened d) c.rise.ensures.value) (sym c.if-settle.ensures.value)
-          (asked_of e s.n d q u true c.look-ahead.ensures.fit.long same c.if-is-cut.ensures);
-      fit = subst (Partial s.n) (sym same) c.look-ahead.ensures.fit;
+          (asked_of e s.n d q u true c.look_ahead.ensures.fit.long same c.if-is_cut.ensures);
+      fit = subst (Partial s.n) (sym same) c.look_ahead.ensures.fit;
       range = λ h. c.deepen.ensures.range (c.rise.ensures.range h);
       right = right s (g.S.Rules.laws.keeps c.args.store.now);
     }
@@ -71,12 +71,12 @@ pub choose-requires : goal.choose-requires
 choose-requires g c =
     let s = g.S.Rules.means c.args.store.now in
     let keep = g.S.Rules.laws.keeps c.args.store.now in
-    let q = c.look-ahead.new.partial in
+    let q = c.look_ahead.new.partial in
     let k = c.in-Some.k in
-    let notes = c.look-ahead.new.notes in
+    let notes = c.look_ahead.new.notes in
     let stands = alive_means s keep (by_gains s) c.args.partial.now c.requires.0 q (map noted (take k notes)) c.in-Some.ensures.value in
     let each = each_of (λ (x : Scored). Literal s.n x.literal) noted (take k notes) stands.literals in
-    let long : length c.settle.new.partial ≡ s.n = ap length c.if-settle.ensures.leaves ∙ c.look-ahead.ensures.fit.long in
+    let long : length c.settle.new.partial ≡ s.n = ap length c.if-settle.ensures.leaves ∙ c.look_ahead.ensures.fit.long in
     subst (λ j. Each (λ (x : Record). Literal (length c.settle.new.partial) x.decision) (take j notes)) (sym (whole k))
     (subst (λ n. Each (λ (x : Record). Literal n x.decision) (take k notes)) (sym long) each)
 
@@ -84,11 +84,11 @@ pub returns : goal.returns
 returns g c =
     let s = g.S.Rules.means c.args.store.now in
     let d = c.args.decisions in
-    let q = c.look-ahead.new.partial in
+    let q = c.look_ahead.new.partial in
     let u = c.settle.new.partial in
     let e = c.deepen.new.cutoff in
     let k = c.in-Some.k in
-    let notes = c.look-ahead.new.notes in
+    let notes = c.look_ahead.new.notes in
     let xs = map noted (take k notes) in
     let same = c.if-settle.ensures.leaves in
     let chosen : c.choose.result ≡ literal_in (best q xs) =
@@ -98,11 +98,11 @@ returns g c =
       value =
           node_alive s (by_gains s) c.args.cutoff.now d c.args.partial.now e q xs false false c.in-Some.ensures.value
           (c.deepen.ensures.value ∙ ap (deepened d) c.rise.ensures.value) (sym c.if-settle.ensures.value)
-          (asked_of e s.n d q u false c.look-ahead.ensures.fit.long same c.if-is-cut.ensures)
+          (asked_of e s.n d q u false c.look_ahead.ensures.fit.long same c.if-is_cut.ensures)
           ∙ ap (λ r. record { cutoff = e; result = r }) (decided_by q (best q xs) c.choose.result (sym chosen))
           ∙ ap (λ r. worked e r q) (sym c.decided.ensures)
           ∙ ap (worked e c.decided.result) (sym same);
-      fit = subst (Partial s.n) (sym same) c.look-ahead.ensures.fit;
+      fit = subst (Partial s.n) (sym same) c.look_ahead.ensures.fit;
       range = λ h. c.deepen.ensures.range (c.rise.ensures.range h);
       right = right s (g.S.Rules.laws.keeps c.args.store.now);
     }
