@@ -21,7 +21,7 @@ loop-b-preserved c =
     let v = c.loop-b.invariant.0 in
     let few = c.loop-b.invariant.1 in
     let here = at_drop_more free p i 0 c.loop-b-test.true ∙ free_by (get_or p i 0) (drop (i + 1) p) in
-    let one = c.is-free-n.ensures in
+    let one = c.is_free-n.ensures in
     let most = at_most_one (eqb (get_or p i 0) 0) in
     (omega arith, omega arith)
 

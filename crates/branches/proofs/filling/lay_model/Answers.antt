@@ -23,7 +23,7 @@ loop-i-preserved c =
     let v = c.loop-i.invariant in
     let bs = c.args.bytes.now in
     let i = c.loop-i.i in
-    let z = c.literal-at.result in
+    let z = c.literal_at.result in
     let fit : SFits w32 z = search rules in
     let h : i < length bs = omega arith in (
       (λ long.
@@ -34,7 +34,7 @@ loop-i-preserved c =
           let p = c.put.ensures.room room in
           let up = p.1 in (
             omega arith,
-            p.0 ∙ ap (λ ls. ls ++ (to_z w32 (of_z w32 z) ∷ [])) u.1 ∙ ap (λ l. literals_of 0 (take i bs) ++ (l ∷ [])) (to_z-of_z w32 z fit ∙ c.literal-at.ensures) ∙ sym (literals_more bs i h),
+            p.0 ∙ ap (λ ls. ls ++ (to_z w32 (of_z w32 z) ∷ [])) u.1 ∙ ap (λ l. literals_of 0 (take i bs) ++ (l ∷ [])) (to_z-of_z w32 z fit ∙ c.literal_at.ensures) ∙ sym (literals_more bs i h),
           )),
       (λ s. c.put.ensures.whole (v.1 s)),
       c.put.ensures.size ∙ v.2,

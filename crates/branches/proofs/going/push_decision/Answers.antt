@@ -9,13 +9,13 @@ pub returns : goal.returns
 returns c =
     let before = c.args.trail.now in
     let records = c.args.records.now in
-    let after = c.take-news.new.trail in
+    let after = c.take_news.new.trail in
     let more = news 0 c.args.before.now c.args.after.now in
     let l = c.args.literal in
     let same = to_z-of_z w32 l c.ranges.literal in
-    let grown = c.take-news.ensures.items in
-    let whole = c.take-news.ensures.whole in
-    let places : size after ≡ size before = c.take-news.ensures.places in
+    let grown = c.take_news.ensures.items in
+    let whole = c.take_news.ensures.whole in
+    let places : size after ≡ size before = c.take_news.ensures.places in
     record {
       trail = λ s few.
           let it = grown s in

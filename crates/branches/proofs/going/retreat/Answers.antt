@@ -18,13 +18,13 @@ returns-then-not-r c =
     let off = p.cases.0 in
     let fewer : at.len ≡ to.len + 1 = p.cases.1 in
     let level : size to ≡ size at = ap length p.memory in
-    let turned = c.turn-over.ensures in
+    let turned = c.turn_over.ensures in
     record {
       place = λ n few a b f.
           let low : r.height < length trail = (found_fits n trail from at to r w b off f).tall.0 in
           let inside : at.len ≤ size at = w.whole b in
           let room : to.len < size to = omega arith in
-          retreats_turn n trail from at to r (items c.turn-over.new.trail) (items c.turn-over.new.records) few w b off (not-true r.second c.if-not-r.true) f
+          retreats_turn n trail from at to r (items c.turn_over.new.trail) (items c.turn_over.new.records) few w b off (not-true r.second c.if-not-r.true) f
           (turned.trail (subst sound (sym waits) a) (subst (λ s. r.height < length (items s)) (sym waits) low)
           ∙ ap (λ s. take r.height (items s) ++ (opposite r.decision ∷ [])) waits)
           (turned.records room);

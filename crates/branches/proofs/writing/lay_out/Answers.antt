@@ -6,7 +6,7 @@ use Rattle.branches.proofs.writing.lay_out.Goals as goal
 
 pub loop-i-preserved : goal.loop-i-preserved
 loop-i-preserved c =
-    laid_more c.args.kind c.args.records.now c.loop-i.cells c.lay-one.new.cells c.loop-i.i _ c.loop-i-test.true c.lay-one.ensures ∙ c.loop-i.invariant
+    laid_more c.args.kind c.args.records.now c.loop-i.cells c.lay_one.new.cells c.loop-i.i _ c.loop-i-test.true c.lay_one.ensures ∙ c.loop-i.invariant
 
 pub returns : goal.returns
 returns c =

@@ -41,20 +41,20 @@ returns g c =
     let out = c.args.out.now in
     let after = c.put.new.self in
     let fits = g.O.Outlet.fitting out in
-    let lies = c.lay-out.ensures in
+    let lies = c.lay_out.ensures in
     let d = length rs - 0 in
-    let told = c.is-ok-fitted.ensures.value in
-    let entry = entry_of kind (take d c.lay-out.new.cells) in
+    let told = c.is_ok-fitted.ensures.value in
+    let entry = entry_of kind (take d c.lay_out.new.cells) in
     let same : (n len : ℕ) → n ≤ 2048 → Fit n (take len cells) (newest_first rs) → entry ≡ branch_entry kind rs =
     λ n len h f. ap (λ u. entry_of kind (take d u)) lies ∙ laid_entry kind cells rs d (omega arith) (ready n len cells rs h f) in
-    let fitted : (es : List Entry) → g.O.Outlet.means out es → c.is-ok-fitted.result ≡ fits es entry =
+    let fitted : (es : List Entry) → g.O.Outlet.means out es → c.is_ok-fitted.result ≡ fits es entry =
     λ es m. told ∙ ap is_ok (c.put.ensures.value es m) ∙ reply_told (fits es entry) in
     record {
       value = λ n len es h f m. fitted es m ∙ ap (fits es) (same n len h f);
       entries = λ n len es h f m.
-          subst (λ e. g.O.Outlet.means after (put_after c.is-ok-fitted.result es e)) (same n len h f)
+          subst (λ e. g.O.Outlet.means after (put_after c.is_ok-fitted.result es e)) (same n len h f)
           (subst (λ b. g.O.Outlet.means after (put_after b es entry)) (sym (fitted es m)) (c.put.ensures.entries es m));
-      memory = λ n len h f. c.take-back.ensures ∙ ap (moved_back 0 rs) lies ∙ undone kind 0 0 rs cells (omega arith) (ready n len cells rs h f);
+      memory = λ n len h f. c.take_back.ensures ∙ ap (moved_back 0 rs) lies ∙ undone kind 0 0 rs cells (omega arith) (ready n len cells rs h f);
       fitting = c.put.ensures.fitting;
       kept = c.put.ensures.kept;
       refused = λ e. c.put.ensures.refused (sym told ∙ e);

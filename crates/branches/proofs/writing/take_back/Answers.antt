@@ -16,6 +16,6 @@ loop-i-preserved c =
     let inside = c.loop-i.auto.i in
     let some = c.loop-i-test.true in
     let j : (i - 1) + 1 ≡ i = omega arith in
-    moved_more rs c.loop-i.cells c.move-one.new.cells (i - 1) _ (omega arith) c.move-one.ensures
+    moved_more rs c.loop-i.cells c.move_one.new.cells (i - 1) _ (omega arith) c.move_one.ensures
     ∙ ap (λ k. moved_back 0 (take k rs) c.loop-i.cells) j
     ∙ c.loop-i.invariant
