@@ -4,6 +4,7 @@
 mod contrary;
 #[cfg(test)]
 mod questions;
+#[cfg(test)]
 mod rows;
 #[cfg(test)]
 mod shared;

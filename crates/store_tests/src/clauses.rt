@@ -49,8 +49,8 @@ fn handed(table: &[i32], rule: usize) -> Option<&[i32]> {
 
 #[test]
 fn handed_out(rt: HostRuntime) -> Result<(), Fail> {
-    assert!(rt; handed(&TABLE, 1).ok_or("rule 1")? == [1, -2, 3]);
-    assert!(rt; handed(&TABLE, 2).ok_or("rule 2")? == [-3]);
+    assert!(rt; handed(&TABLE, 1).ok_or("rule 1")? == [1, -2, 3].as_slice());
+    assert!(rt; handed(&TABLE, 2).ok_or("rule 2")? == [-3].as_slice());
     assert!(rt; handed(&TABLE, 3).ok_or("rule 3")?.is_empty());
     assert!(rt; handed(&TABLE, 0).is_none());
     assert!(rt; handed(&TABLE, 4).is_none());

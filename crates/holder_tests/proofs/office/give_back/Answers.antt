@@ -14,4 +14,4 @@ returns-in-Ok c = λ h.
     let l = c.in-Some.loan in
     let t = c.in-Some.ensures in
     let count : (k : ℕ) → count_of k ls ≡ cond (eqb l.cube k) 1 0 + count_of k ls' = λ k. t.counts k ∙ ap (λ z. cond (eqb z k) 1 0 + count_of k ls') (sym t.cube_is) in
-    subst (λ z. Agree z ls') (sym c.settle.ensures.marks) (back_agree ms ls ls' l c.in-Ok.-spent (mark_at ms l.cube) refl c.in-Ok.ensures.value h count)
+    subst (λ z. Agree z ls') (sym c.settle.ensures.marks) (back_agree ms ls ls' l c.in-Ok._spent (mark_at ms l.cube) refl c.in-Ok.ensures.value h count)

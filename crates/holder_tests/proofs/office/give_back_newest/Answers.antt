@@ -10,11 +10,11 @@ use Rattle.holder_tests.proofs.office.give_back_newest.Goals as goal
 
 pub drop-requires : goal.drop-requires
 drop-requires c =
-    absurd (never_refused (marks_of c.args.book.now) (loans_of c.args.loans.now) (loans_of c.pop.new.self) c.in-Some.loan c.in-default-settle.field-0 c.requires c.in-Some.ensures.newest c.in-default-settle.ensures.value)
+    absurd (never_refused (marks_of c.args.book.now) (loans_of c.args.loans.now) (loans_of c.pop.new.self) c.in-Some.loan c.in_default-settle.field-0 c.requires c.in-Some.ensures.newest c.in_default-settle.ensures.value)
 
 pub unreachable-requires : goal.unreachable-requires
 unreachable-requires c =
-    never_refused (marks_of c.args.book.now) (loans_of c.args.loans.now) (loans_of c.pop.new.self) c.in-Some.loan c.in-default-settle.field-0 c.requires c.in-Some.ensures.newest c.in-default-settle.ensures.value
+    never_refused (marks_of c.args.book.now) (loans_of c.args.loans.now) (loans_of c.pop.new.self) c.in-Some.loan c.in_default-settle.field-0 c.requires c.in-Some.ensures.newest c.in_default-settle.ensures.value
 
 pub returns : goal.returns
 returns c =
@@ -25,6 +25,6 @@ returns c =
     let newest = c.in-Some.ensures.newest in
     let count : (k : ℕ) → count_of k ls ≡ cond (eqb l.cube k) 1 0 + count_of k ls' = λ k. (let e = ap (count_of k) newest ∙ count_push k ls' l in omega arith) in
     record {
-      agree = subst (λ z. Agree z ls') (sym c.settle.ensures.marks) (back_agree ms ls ls' l c.in-Ok.-spent (mark_at ms l.cube) refl c.in-Ok.ensures.value c.requires count);
+      agree = subst (λ z. Agree z ls') (sym c.settle.ensures.marks) (back_agree ms ls ls' l c.in-Ok._spent (mark_at ms l.cube) refl c.in-Ok.ensures.value c.requires count);
       fewer = sym (ap length newest ∙ length_push ls' l);
     }

@@ -16,4 +16,4 @@ node-requires g c =
     let room : length p - 0 ≤ length blank = omega arith in
     let free_few : free p ≤ 7 = omega (arith, free_low p) in
     let long : length (take (length p - 0) blank) ≡ length p = omega (arith, length-take-le (length p - 0) blank room) in
-    (subst (λ n. Partial n p) c.variables.ensures (c.is_partial.ensures.fits c.if-not-is-partial.false), (long, (free_few, free_few)))
+    (subst (λ n. Partial n p) c.variables.ensures (c.is_partial.ensures.fits c.if-not-is_partial.false), (long, (free_few, free_few)))

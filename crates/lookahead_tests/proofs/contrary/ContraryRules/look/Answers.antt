@@ -7,12 +7,12 @@ use Rattle.lookahead_tests.proofs.contrary.ContraryRules.look.Goals as goal
 asked : (r : ℕ) (p : List ℕ) → r ≡ 1 → is_partial 4 p ≡ true → answers contrary r p ≡ true
 asked r p e f = ap (λ k. answers contrary k p) e ∙ f
 
-pub returns-then-is-partial : goal.returns-then-is-partial
-returns-then-is-partial c =
+pub returns-then-is_partial : goal.returns-then-is_partial
+returns-then-is_partial c =
     let r = c.args.rule in
     let p = c.args.partial.now in
-    let fits = c.is_partial.ensures.fits c.if-is-partial.true in
-    let there = asked r p c.if-rule-eq1.true (sym c.if-is-partial.ensures.value) in
+    let fits = c.is_partial.ensures.fits c.if-is_partial.true in
+    let there = asked r p c.if-rule-eq1.true (sym c.if-is_partial.ensures.value) in
     let low : 1 ≤ r = omega arith in
     let high : r ≤ 1 = omega arith in
     record {
