@@ -1,5 +1,5 @@
 -- With how many branches an assignment agrees: a branch split in two, one more entry, the three states of the cubes.
-use Rattle.std.proofs.Common.{◌≡◌, ℕ, zero, suc, ◌+◌, Bool, true, false, cond, not, ◌&&◌, ◌||◌, List, [], ◌∷◌, ◌++◌, map, length, ℤ, neg_ℤ, Some, None, Option as Maybe, sym, refl, ap, ◌∙◌, arith, length-set}
+use Rattle.std.proofs.Common.{◌≡◌, ℕ, ◌+◌, Bool, true, false, cond, not, ◌&&◌, ◌||◌, List, [], ◌∷◌, ◌++◌, map, length, ℤ, neg_ℤ, Some, None, Option as Maybe, sym, refl, ap, ◌∙◌, arith, length-set}
 use lib.IntN.{neg_ℤ-neg_ℤ}
 use Rattle.rules.specs.Literals.{Each, Literal, Full, is_true, agrees}
 use Rattle.rules.specs.Rules.{clause_true}

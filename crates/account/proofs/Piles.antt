@@ -1,14 +1,12 @@
 -- Trail and records stand for the pile: after a decision, and after the current branch is taken off.
-use Rattle.std.proofs.Common.{◌≡◌, ℕ, zero, suc, ◌+◌, ◌<◌, ◌≤◌, Bool, true, false, cond, List, [], ◌∷◌, ◌++◌, length, get_or, take, replicate, ℤ, pos, neg_ℤ, sym, refl, ap, ◌∙◌, subst, arith, length-append}
-use mathlib.Core.Option.{Option, none, some}
+use Rattle.std.proofs.Common.{◌≡◌, ℕ, ◌+◌, ◌<◌, ◌≤◌, Bool, true, false, cond, List, [], ◌∷◌, ◌++◌, length, get_or, take, ℤ, pos, neg_ℤ, sym, refl, ap, ◌∙◌, subst, arith, length-append}
 use lib.IntN.{neg_ℤ-neg_ℤ}
 use Rattle.std.proofs.lemmas.List.{take-take, take_at, take-append-le, get_or_append_left, get_or-take, get_or_push, length_push, length-take-le}
-use Rattle.rules.specs.Literals.{place, put, free, Literal, Each, Partial}
+use Rattle.rules.specs.Literals.{place, put, free, Literal, Each}
 use Rattle.meaning.proofs.Keeps.{literal_neg, place_neg}
 use Rattle.stack.specs.declared.kinds.Record.{Record}
-use Rattle.account.specs.Account.{Branch}
-use Rattle.account.specs.Piles.{partial_of, taken, path, second_side, pending_by, pending, pile_of, Tall, Fit, Place, back_by, back, open_at, FitAt, PilesRight}
-use Rattle.account.proofs.Trails.{Fresh, each_append, each_take, each_get, set_all_append, partial_push, partial_fits, fresh_front, fresh_push, fresh_at}
+use Rattle.account.specs.Piles.{partial_of, taken, path, second_side, pending_by, pending, pile_of, Tall, Fit, back_by, back, open_at, FitAt, PilesRight}
+use Rattle.account.proofs.Trails.{Fresh, each_append, each_take, each_get, partial_push, fresh_front, fresh_push, fresh_at}
 
 -- ---- heights
 tall_more : (h k : ℕ) (rs : List Record) → h ≤ k → Tall h rs → Tall k rs

@@ -1,7 +1,7 @@
 -- A list of calls with one more at its end.
 use Rattle.std.proofs.Common.{◌≡◌, List, [], ◌∷◌, ◌++◌, refl, ap}
 use Rattle.stores.specs.Stores.{Store}
-use Rattle.account.specs.Account.{Account, Fitting, Call, Answer}
+use Rattle.account.specs.Account.{Account, Fitting, Call}
 use Rattle.account.specs.Calls.{turn, run, answers}
 
 module _ (s : Store) (fit : Fitting) where

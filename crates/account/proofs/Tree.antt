@@ -1,5 +1,5 @@
 -- The account keeps an invariant under every call, and the theorem follows from it.
-use Rattle.std.proofs.Common.{◌≡◌, ℕ, zero, suc, ◌+◌, ◌*◌, ◌<◌, ◌≤◌, Bool, true, false, cond, ◌&&◌, eqb, ltb, ◌≢◌, ◌↔◌, List, [], ◌∷◌, ◌++◌, map, length, ℤ, neg_ℤ, Some, None, Option as Maybe, sym, refl, ap, ◌∙◌, subst, ⊎_elim, arith}
+use Rattle.std.proofs.Common.{◌≡◌, ℕ, zero, suc, ◌+◌, ◌*◌, ◌<◌, ◌≤◌, Bool, true, false, ◌&&◌, eqb, ltb, ◌≢◌, ◌↔◌, List, [], ◌∷◌, ◌++◌, map, length, ℤ, neg_ℤ, Some, None, Option as Maybe, sym, refl, ap, ◌∙◌, subst, ⊎_elim, arith}
 use mathlib.Core.Option.{Option, none, some}
 use lib.ListN.{length-map}
 use Rattle.std.proofs.lemmas.Bool.{and_parts, eqb-true, cases_eq}
@@ -22,8 +22,8 @@ use Rattle.lookahead.specs.Trials.{Ranking, by_gains}
 use Rattle.lookahead.specs.Nodes.{Node, refuted, model, cube, decided, node}
 use Rattle.lookahead.specs.Laws.{NodeSound, NodeRight}
 use Rattle.lookahead.proofs.Right.{right}
-use Rattle.account.specs.Account.{Branch, Account, Fitting, Call, step, cut, lend, settle, offer, verdict, Opinion, undecided, none_is, Answer, cubes, cuts, lends, settles, Turn, first}
-use Rattle.account.specs.Calls.{fits_start, given, unless_kept, with_literal, clause_of, cube_of, refuting, cubing, is_full, stepped, node_at, step_on, cut_on, marked, lend_by, settle_by, all_sides, broken_by, first_broken, offer_by, cubes_of, clauses_of, opinion_by, opinion, turn, run}
+use Rattle.account.specs.Account.{Branch, Account, Fitting, Call, step, cut, lend, settle, offer, verdict, undecided, none_is, Answer, cubes, cuts, lends, settles, Turn, first}
+use Rattle.account.specs.Calls.{fits_start, given, unless_kept, with_literal, clause_of, cube_of, refuting, cubing, is_full, stepped, node_at, step_on, cut_on, marked, lend_by, settle_by, all_sides, broken_by, first_broken, offer_by, cubes_of, clauses_of, opinion_by, turn, run}
 use Rattle.account.specs.Theorem.{open_branches, refuted_branches, cubes_now, count, NoneAgrees, KeptRight, Holds, TreeHolds}
 use Rattle.account.proofs.Trails.{free_partial, free_extends}
 use Rattle.account.proofs.Offers.{full_fits}

@@ -1,6 +1,6 @@
 -- The account of the tree: what a splitter stands for, and the calls on it.
 use Rattle.std.specs.Prelude.{ℕ, Bool, List, [], ◌∷◌, replicate, ℤ}
-use Rattle.std.proofs.Math.Option.{Option, none, some}
+use Rattle.std.proofs.Math.Option.{Option, none}
 use Rattle.outlet.specs.Entries.{Entry}
 use Rattle.book.specs.declared.held.Mark.{Mark}
 use Rattle.book.specs.declared.held.Word.{Word}

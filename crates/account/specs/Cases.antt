@@ -1,6 +1,6 @@
 -- Worked runs, each by computing: small stores, an outlet that takes everything.
-use Rattle.std.specs.Prelude.{◌≡◌, ℕ, ◌*◌, true, false, List, [], ◌∷◌, ℤ, pos, negsuc}
-use Rattle.std.proofs.Math.Option.{Option, some}
+use Rattle.std.specs.Prelude.{◌≡◌, ◌*◌, true, false, List, [], ◌∷◌, pos, negsuc}
+use Rattle.std.proofs.Math.Option.{some}
 use Rattle.std.specs.Float.{binary64}
 use Rattle.std.specs.Float.Ieee.{round}
 use Rattle.stores.specs.Stores.{Store}
@@ -9,7 +9,7 @@ use Rattle.meaning.specs.Listed.{listed}
 use Rattle.cutoff.specs.declared.kinds.Cutoff.{Cutoff}
 use Rattle.cutoff.specs.declared.kinds.Cutoff.TheVariants.{Never, Depth, Share}
 use Rattle.cutoff.specs.Cutoffs.{cuts_at}
-use Rattle.outlet.specs.Entries.{Entry, cube, learnt}
+use Rattle.outlet.specs.Entries.{cube, learnt}
 use Rattle.book.specs.declared.held.Word.TheVariants.{Closed}
 use Rattle.account.specs.Account.{Fitting, Call, step, lend, settle, offer, verdict, a_model, undecided, none_is, Answer, decides, refutes, cubes, models, lends, settles, keeps, says, refused, Account, first}
 use Rattle.account.specs.Calls.{run, answers}

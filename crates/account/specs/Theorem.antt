@@ -3,12 +3,12 @@ use Rattle.std.specs.Prelude.{◌≡◌, ℕ, ◌+◌, Bool, true, false, cond, 
 use Rattle.std.proofs.Math.Option.{Option, some}
 use Rattle.rules.specs.Literals.{Full, Each, agrees}
 use Rattle.rules.specs.Rules.{clause_true}
-use Rattle.stores.specs.Stores.{Store, Keeps, Satisfies}
+use Rattle.stores.specs.Stores.{Store, Satisfies}
 use Rattle.cutoff.specs.declared.kinds.Cutoff.{Cutoff}
 use Rattle.book.specs.declared.held.Mark.{Mark}
 use Rattle.book.specs.declared.held.Mark.TheVariants.{Waiting, Out, Closed}
 use Rattle.book.specs.Marks.{same_mark}
-use Rattle.account.specs.Account.{Branch, Account, Fitting, Call, Opinion, undecided, none_is, first}
+use Rattle.account.specs.Account.{Branch, Account, Fitting, Call, undecided, none_is, first}
 use Rattle.account.specs.Calls.{cubes_of, clauses_of, opinion, run}
 
 -- the decisions of the open branches

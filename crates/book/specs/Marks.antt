@@ -1,5 +1,5 @@
 -- The cubes of a book, their states, and what an event does to one of them.
-use Rattle.std.specs.Prelude.{◌≡◌, ℕ, zero, suc, ◌+◌, ◌-◌, Bool, true, false, cond, ◌&&◌, List, [], ◌∷◌, ◌++◌, length, take, drop, Some, None, Ok, Err, Option, Result, nat_le, nat_lt, slice_index_or, slice_set}
+use Rattle.std.specs.Prelude.{ℕ, ◌+◌, ◌-◌, Bool, true, false, cond, ◌&&◌, List, [], ◌∷◌, ◌++◌, length, take, drop, Some, None, Ok, Err, Option, Result, nat_le, nat_lt, slice_index_or, slice_set}
 use Rattle.book.specs.declared.held.Mark.{Mark}
 use Rattle.book.specs.declared.held.Mark.TheVariants.{Waiting, Out, Closed}
 use Rattle.book.specs.declared.held.Event.{Event}

@@ -8,7 +8,7 @@ use Rattle.stores.specs.declared.look.Find.{Find}
 use Rattle.stores.specs.declared.look.Find.TheVariants.{Nothing, Clash, Force}
 use Rattle.stores.specs.Stores.{Store, Satisfies, Means, Keeps}
 use Rattle.stores.specs.Walks.{found_by, found, lowest_of}
-use Rattle.closing.specs.Laws.{Quiet, First, Lowest}
+use Rattle.closing.specs.Laws.{Quiet, Lowest}
 
 -- no satisfying assignment extends p
 abbrev pub Dead : Store → List ℕ → Type 0

@@ -1,9 +1,7 @@
 -- The laws of closing.
-use Rattle.std.proofs.Common.{◌≡◌, ℕ, List, sym, ap, ◌∙◌, subst}
-use Rattle.rules.specs.Literals.{Partial, Extends}
-use Rattle.stores.specs.declared.look.Find.TheVariants.{Nothing, Clash}
+use Rattle.std.proofs.Common.{◌≡◌, ℕ, List, ap, ◌∙◌, subst}
+use Rattle.rules.specs.Literals.{Partial}
 use Rattle.stores.specs.Stores.{Store, Keeps}
-use Rattle.stores.specs.Walks.{lowest_of}
 use Rattle.closing.specs.Closing.{Closing, clash, closes, close_by, close, left}
 use Rattle.closing.specs.Laws.{Lowest, ClosingRight}
 use Rattle.closing.proofs.Found.{lowest_is}

@@ -7,7 +7,7 @@ use Rattle.stores.specs.declared.look.Find.{Find}
 use Rattle.stores.specs.declared.look.Find.TheVariants.{Nothing, Clash, Force}
 use Rattle.stores.specs.Stores.{Store, Satisfies}
 use Rattle.stores.specs.Walks.{lowest_of}
-use Rattle.closing.specs.Closing.{Closing, clash, closes, close_by, close, left_by, left}
+use Rattle.closing.specs.Closing.{clash, closes, close_by, close, left_by, left}
 
 -- neither broken nor forcing
 abbrev pub Quiet : Look → Type 0

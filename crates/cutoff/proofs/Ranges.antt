@@ -1,5 +1,5 @@
 -- A threshold in range is a finite number above zero, and so is no NaN.
-use Rattle.std.proofs.Common.{◌≡◌, Bool, true, false, not, ◌&&◌, T, sym, refl, subst}
+use Rattle.std.proofs.Common.{◌≡◌, Bool, true, false, not, T, sym, refl, subst}
 use lib.Ieee.{Float, nan, inf, fin, round, le, is_nan, of_bits}
 use lib.Ieee.Bits.{is_true}
 use lib.Ieee.Fits.{and_i, and_l, and_r}

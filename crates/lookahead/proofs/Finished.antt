@@ -1,5 +1,5 @@
 -- What a node comes to after its pass.
-use Rattle.std.proofs.Common.{◌≡◌, ℕ, zero, suc, ◌≤◌, Bool, true, false, List, [], ◌∷◌, map, length, get_or, ℤ, Some, None, Option as Maybe, sym, refl, ap, ◌∙◌, arith}
+use Rattle.std.proofs.Common.{◌≡◌, ℕ, zero, suc, ◌≤◌, Bool, true, List, [], ◌∷◌, map, get_or, ℤ, Option as Maybe, sym, refl, ap, ◌∙◌, arith}
 use mathlib.Core.Option.{Option, none, some}
 use Rattle.lookahead.specs.Answers.{literal_in, decided_as, node_of}
 use Rattle.rules.specs.Literals.{Partial, Each}
@@ -9,7 +9,7 @@ use Rattle.cutoff.specs.declared.kinds.Cutoff.{Cutoff}
 use Rattle.cutoff.specs.Theta.{grow, shrink}
 use Rattle.cutoff.specs.Cutoffs.{eased, cuts_at}
 use Rattle.lookahead.specs.Trials.{Ranking, Scored, dead, alive, lookahead}
-use Rattle.lookahead.specs.Nodes.{Node, refuted, model, cube, decided, decide, filled, set_in, deepened, outcome, finish, node, Worked}
+use Rattle.lookahead.specs.Nodes.{Node, refuted, model, decide, filled, set_in, deepened, outcome, finish, node, Worked}
 use Rattle.lookahead.proofs.Partials.{length_filled}
 
 abbrev came_to : Cutoff → Node → Worked

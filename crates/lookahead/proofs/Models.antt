@@ -1,5 +1,5 @@
 -- Where every rule is settled, the partial with its free variables false satisfies the store.
-use Rattle.std.proofs.Common.{◌≡◌, ℕ, zero, suc, ◌+◌, ◌<◌, ◌≤◌, true, false, List, subst, ⊎_elim, arith}
+use Rattle.std.proofs.Common.{◌≡◌, ℕ, zero, suc, ◌+◌, ◌<◌, ◌≤◌, true, List, subst, ⊎_elim, arith}
 use Rattle.std.proofs.lemmas.Bool.{false≢true, and_parts, cases_eq}
 use Rattle.rules.specs.Literals.{Partial, Full, Extends}
 use Rattle.stores.specs.declared.look.Look.{Look}

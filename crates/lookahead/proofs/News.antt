@@ -1,8 +1,7 @@
 -- The literals that one partial sets and another does not, place by place.
-use Rattle.std.proofs.Common.{◌≡◌, ℕ, zero, suc, ◌+◌, ◌<◌, ◌≤◌, Bool, true, false, List, [], ◌∷◌, ◌++◌, length, get_or, take, drop, set, ℤ, Some, None, Option, sym, refl, ap, ◌∙◌, subst, add-one, arith}
+use Rattle.std.proofs.Common.{◌≡◌, ℕ, zero, suc, ◌+◌, ◌<◌, ◌≤◌, List, [], ◌∷◌, ◌++◌, length, get_or, take, drop, set, ℤ, Some, None, sym, refl, ap, ◌∙◌, subst, add-one, arith}
 use Rattle.std.proofs.lemmas.List.{append_assoc, append-nil, drop_more, drop_all, take_more_set, length-set}
-use Rattle.rules.specs.Literals.{free, Literal, Each}
-use Rattle.lookahead.specs.Trials.{literal_of}
+use Rattle.rules.specs.Literals.{free, Each}
 use Rattle.lookahead.specs.Answers.{new_at, added, news}
 
 module _ (p q : List ℕ) (i : ℕ) (h : i < length p) (same : length q ≡ length p) where

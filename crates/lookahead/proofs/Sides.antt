@@ -1,9 +1,9 @@
 -- Setting what one side has set gives that side; setting what both have gives what they share.
-use Rattle.std.proofs.Common.{◌≡◌, ℕ, zero, suc, ◌+◌, ◌<◌, ◌≤◌, Bool, true, false, cond, eqb, ◌⊎◌, List, [], ◌∷◌, ◌++◌, length, get_or, set, ℤ, pos, negsuc, Some, None, sym, refl, ap, ◌∙◌, subst, inl, inr, ⊎_elim, arith}
-use Rattle.std.proofs.lemmas.List.{append_assoc, append-nil, length_push, set_at, get_or_at}
+use Rattle.std.proofs.Common.{◌≡◌, ℕ, zero, suc, ◌+◌, ◌<◌, ◌≤◌, Bool, true, false, cond, eqb, ◌⊎◌, List, [], ◌∷◌, ◌++◌, length, get_or, set, ℤ, pos, negsuc, sym, refl, ap, ◌∙◌, inl, inr, arith}
+use Rattle.std.proofs.lemmas.List.{append_assoc, length_push, set_at, get_or_at}
 use Rattle.std.proofs.lemmas.Bool.{eqb-true, eqb-false, eq-eqb, ne_eqb}
-use Rattle.rules.specs.Literals.{place, side, put, is_true, Literal, Partial, Extends, Each, free}
-use Rattle.lookahead.specs.Trials.{literal_of, shared, common}
+use Rattle.rules.specs.Literals.{place, side, put, is_true, Literal, Partial, Extends, Each}
+use Rattle.lookahead.specs.Trials.{shared, common}
 use Rattle.lookahead.specs.Answers.{new_at, added, news, set_all, held}
 
 eqb_comm : (a b : ℕ) → eqb a b ≡ eqb b a

@@ -1,5 +1,5 @@
 -- What a turn comes to, by how the closings of its two sides end.
-use Rattle.std.proofs.Common.{◌≡◌, ℕ, zero, suc, ◌<◌, ◌≤◌, Bool, true, false, ◌⊎◌, List, [], ◌∷◌, ◌++◌, get_or, set, sym, refl, ap, ◌∙◌, subst, inl, inr, arith, length-set}
+use Rattle.std.proofs.Common.{◌≡◌, ℕ, zero, suc, ◌≤◌, Bool, true, false, List, [], ◌∷◌, ◌++◌, get_or, set, sym, refl, ap, ◌∙◌, subst, inl, inr, arith, length-set}
 use Rattle.rules.specs.Literals.{Partial, Extends}
 use Rattle.stores.specs.Stores.{Store}
 use Rattle.closing.specs.Closing.{Closing, close, ended}

@@ -1,11 +1,11 @@
 -- What is so of a node, over every store that keeps its meaning.
-use Rattle.std.specs.Prelude.{◌≡◌, ℕ, ◌<◌, ◌≤◌, Bool, true, List, length, ℤ, ◌≢◌, slice_index}
+use Rattle.std.specs.Prelude.{◌≡◌, ℕ, ◌<◌, ◌≤◌, true, List, ℤ, ◌≢◌, slice_index}
 use Rattle.rules.specs.Literals.{place, Literal, Partial, Extends, Each}
 use Rattle.stores.specs.Stores.{Store, Satisfies}
 use Rattle.cutoff.specs.declared.kinds.Cutoff.{Cutoff}
 use Rattle.cutoff.specs.Cutoffs.{cuts_at}
 use Rattle.lookahead.specs.Trials.{Ranking, Scored, alive, lookahead}
-use Rattle.lookahead.specs.Nodes.{Node, refuted, model, cube, decided, node, set_in}
+use Rattle.lookahead.specs.Nodes.{refuted, model, cube, decided, node, set_in}
 
 -- y is not better than x: its score is not greater, and at a tie its variable is not lower
 abbrev pub Beats : Scored → Scored → Type 0

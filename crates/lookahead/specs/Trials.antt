@@ -1,5 +1,5 @@
 -- Trying a variable both ways, and the pass that tries every free one.
-use Rattle.std.specs.Prelude.{ℕ, zero, suc, ◌+◌, ◌*◌, Bool, true, false, cond, List, [], ◌∷◌, ◌++◌, set, ℤ, pos, negsuc, ◌==◌, nat_lt, slice_index, slice_set}
+use Rattle.std.specs.Prelude.{ℕ, zero, suc, ◌+◌, ◌*◌, Bool, true, false, cond, List, [], ◌∷◌, ◌++◌, ℤ, pos, negsuc, ◌==◌, nat_lt, slice_index, slice_set}
 use Rattle.stores.specs.Stores.{Store}
 use Rattle.stores.specs.Walks.{gained}
 use Rattle.closing.specs.Closing.{Closing, clash, closes, close}

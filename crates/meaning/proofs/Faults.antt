@@ -1,8 +1,8 @@
 -- What the first fault of a table says of it.
-use Rattle.std.proofs.Common.{◌≡◌, ℕ, zero, suc, ◌+◌, ◌<◌, ◌≤◌, Bool, true, false, cond, ◌||◌, eqb, ltb, ◌⊎◌, List, [], ◌∷◌, ◌++◌, length, get_or, take, ℤ, pos, negsuc, nat_abs, sym, refl, ap, ◌∙◌, subst, inl, inr, ⊎_elim, arith}
+use Rattle.std.proofs.Common.{◌≡◌, ℕ, suc, ◌+◌, Bool, true, false, cond, ltb, List, [], ◌∷◌, ◌++◌, get_or, take, ℤ, pos, nat_abs, sym, refl, ap, ◌∙◌, subst, inl, inr, arith}
 use mathlib.Core.Option.{Option, none, some}
-use Rattle.std.proofs.lemmas.Bool.{ltb-true, ltb-false}
-use Rattle.meaning.specs.Tables.{is_end, ends, has_var, is_empty, fault_from, rule_fault, beyond, open_fault, since, Wrong, FaultsMean}
+use Rattle.std.proofs.lemmas.Bool.{ltb-true}
+use Rattle.meaning.specs.Tables.{is_end, has_var, fault_from, rule_fault, beyond, open_fault, since, Wrong, FaultsMean}
 
 -- the fault k of what stands from some index on lies j places further, with its reason there
 pub record Met (n : ℕ) (seen t : List ℤ) (at k i : ℕ) : Type 0 where

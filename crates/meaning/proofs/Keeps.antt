@@ -1,15 +1,14 @@
 -- A list of rules of one kind keeps a store's meaning: one argument for clauses and odd rules.
-use Rattle.std.proofs.Common.{◌≡◌, ℕ, zero, suc, ◌+◌, ◌-◌, ◌<◌, ◌≤◌, Bool, true, false, cond, not, ◌||◌, eqb, ◌⊎◌, List, [], ◌∷◌, length, get_or, set, ℤ, pos, negsuc, neg_ℤ, sym, refl, ap, ◌∙◌, subst, inl, inr, ⊎_elim, arith, length-set}
+use Rattle.std.proofs.Common.{◌≡◌, ℕ, zero, suc, ◌+◌, ◌-◌, ◌<◌, ◌≤◌, Bool, true, false, cond, not, ◌||◌, eqb, ◌⊎◌, List, [], ◌∷◌, length, get_or, set, ℤ, pos, negsuc, neg_ℤ, sym, refl, ap, ◌∙◌, inl, inr, ⊎_elim, arith, length-set}
 use Rattle.std.proofs.lemmas.Bool.{true≢false}
 use Rattle.std.proofs.lemmas.List.{get_or-set_other}
 use Rattle.rules.specs.Literals.{Each, Full, Partial, Extends, Literal, place, side, put, is_true, free}
-use Rattle.rules.specs.Rules.{clause, odd, holds, clause_true, true_count, is_odd, Apart, Fits}
-use Rattle.stores.specs.declared.look.Look.{Look}
-use Rattle.stores.specs.declared.look.Look.TheVariants.{Settled, Broken, Forces, Open}
+use Rattle.rules.specs.Rules.{holds, clause_true, true_count, is_odd, Fits}
+use Rattle.stores.specs.declared.look.Look.TheVariants.{Settled, Broken, Forces}
 use Rattle.stores.specs.Stores.{Store, Means, Keeps}
 use Rattle.meaning.specs.declared.Kind.{Kind}
 use Rattle.meaning.specs.declared.Kind.TheVariants.{Clause, Odd}
-use Rattle.meaning.specs.Listed.{rule_of, if_free, free_of, look_by, look_at, nth_rule, listed}
+use Rattle.meaning.specs.Listed.{rule_of, if_free, free_of, look_by, nth_rule, listed}
 
 -- ---- a literal under a partial and under an assignment that extends it
 zero_false : (l : ℤ) → eqb 0 (side l) ≡ false

@@ -2,15 +2,15 @@
 use Rattle.std.proofs.Common.{◌≡◌, ℕ, zero, suc, ◌+◌, ◌-◌, ◌<◌, ◌≤◌, Bool, true, false, cond, ◌&&◌, eqb, ltb, leb, List, [], ◌∷◌, length, get_or, ℤ, sym, refl, ap, ◌∙◌, subst, arith}
 use mathlib.Core.Option.{Option, none, some}
 use Rattle.std.proofs.lemmas.Bool.{le-leb, lt-leb, leb-true, leb-false, eq-eqb, and_from, and_parts, ltb-false, le-ltb}
-use Rattle.rules.specs.Literals.{Each, Full}
-use Rattle.rules.specs.Rules.{Rule, clause, odd, literals, holds, satisfies, Fits, clauses, odds, numbers}
-use Rattle.stores.specs.Stores.{Store, Satisfies}
+use Rattle.rules.specs.Literals.{Each}
+use Rattle.rules.specs.Rules.{Rule, clause, odd, literals, holds, satisfies, Fits, clauses, odds}
+use Rattle.stores.specs.Stores.{Satisfies}
 use Rattle.stores.specs.Joins.{joinable, joins}
 use Rattle.meaning.specs.declared.Kind.{Kind}
 use Rattle.meaning.specs.declared.Kind.TheVariants.{Clause, Odd}
 use Rattle.meaning.specs.Listed.{rule_of, nth_rule, listed}
 use Rattle.stores.specs.Joins.{join_fault}
-use Rattle.meaning.specs.Tables.{parts, ends, open_fault, opens, is_none, HoldsRules}
+use Rattle.meaning.specs.Tables.{parts, ends, open_fault, is_none, HoldsRules}
 use Rattle.meaning.specs.Spelt.{Ruled, joined_rules, MeansRules, Filled, or_fault, together_fault, both_fault}
 use Rattle.meaning.proofs.Tables.{rules_open, ends_numbers, opened_count}
 

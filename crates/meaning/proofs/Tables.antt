@@ -1,10 +1,10 @@
 -- A table opens just if it holds rules that fit.
-use Rattle.std.proofs.Common.{◌≡◌, ℕ, zero, suc, ◌+◌, ◌<◌, ◌≤◌, Bool, true, false, cond, ◌||◌, eqb, ltb, List, [], ◌∷◌, ◌++◌, length, ℤ, pos, negsuc, nat_abs, sym, refl, ap, ◌∙◌, subst, append_assoc, arith}
+use Rattle.std.proofs.Common.{◌≡◌, ℕ, zero, suc, ◌+◌, ◌≤◌, Bool, true, false, cond, ◌||◌, eqb, ltb, List, [], ◌∷◌, ◌++◌, length, ℤ, pos, negsuc, nat_abs, sym, refl, ap, ◌∙◌, subst, append_assoc, arith}
 use mathlib.Core.Option.{Option, none, some}
 use Rattle.std.proofs.lemmas.Bool.{true≢false, eqb-false, ne_eqb, ltb-false, le-ltb, or_parts}
 use Rattle.rules.specs.Literals.{Each, Literal, place}
 use Rattle.rules.specs.Rules.{Apart, Fits, numbers}
-use Rattle.meaning.specs.Tables.{is_end, onto, parts, ends, has_var, is_empty, fault_from, open_fault, is_none, opens, HoldsRules, OpensRules}
+use Rattle.meaning.specs.Tables.{is_end, onto, parts, ends, has_var, fault_from, open_fault, is_none, opens, HoldsRules, OpensRules}
 
 -- ---- literals
 pub literal_lit : (n : ℕ) (z : ℤ) → Literal n z → is_end z ≡ false

@@ -1,5 +1,5 @@
 -- The store that a list of rules of one kind is.
-use Rattle.std.specs.Prelude.{ℕ, zero, suc, ◌-◌, Bool, true, false, cond, List, [], ◌∷◌, length, ℤ, neg_ℤ, slice_index, slice_index_or}
+use Rattle.std.specs.Prelude.{ℕ, zero, suc, ◌-◌, cond, List, [], ◌∷◌, length, ℤ, neg_ℤ, slice_index, slice_index_or}
 use Rattle.rules.specs.Literals.{place}
 use Rattle.rules.specs.Rules.{Rule, clause, odd, holds, true_count, is_odd}
 use Rattle.stores.specs.declared.look.Look.{Look}

@@ -7,7 +7,7 @@ use Rattle.outlet.specs.declared.kinds.Kind.TheVariants.{Cube, Learnt}
 use Rattle.outlet.specs.Entries.{Entry, entry_of}
 use Rattle.outlet.specs.Memory.{laid}
 use Rattle.outlet.specs.Numbers.{numbers, entry_numbers, kind_number, numbers_fit, room_for}
-use Rattle.outlet.proofs.Laid.{laid_long, laid_on, laid_one, laid_part}
+use Rattle.outlet.proofs.Laid.{laid_on, laid_one, laid_part}
 
 -- two numbers and a copied part are one piece
 pub written : {X : Type 0} (xs ys : List X) (at n : ℕ) (a b : X) → at + 2 ≤ length xs → n ≡ length ys →

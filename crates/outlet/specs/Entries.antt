@@ -1,5 +1,5 @@
 -- What an outlet holds: entries, each a cube or a learnt clause, with its literals.
-use Rattle.std.specs.Prelude.{◌≡◌, ℕ, Bool, true, false, cond, List, [], ◌∷◌, ◌++◌, ℤ, Ok, Err, Result}
+use Rattle.std.specs.Prelude.{◌≡◌, ℕ, Bool, cond, List, [], ◌∷◌, ◌++◌, ℤ, Ok, Err, Result}
 use Rattle.outlet.specs.declared.kinds.Kind.{Kind}
 use Rattle.outlet.specs.declared.kinds.Kind.TheVariants.{Cube, Learnt}
 use Rattle.outlet.specs.declared.kinds.Refusal.{Refusal}

@@ -1,8 +1,7 @@
 -- The number outlet keeps the laws: above all, no two lists of entries have the same numbers.
-use Rattle.std.specs.Prelude.{◌≡◌, ℕ, List, [], ◌∷◌, ◌++◌, length, take, drop, ℤ, pos, refl}
+use Rattle.std.specs.Prelude.{◌≡◌, ℕ, List, [], ◌∷◌, ◌++◌, length, take, drop, refl}
 use Rattle.std.proofs.Common.{sym, ◌∙◌, ap, arith}
 use Rattle.std.proofs.lemmas.List.{take_at, drop_at}
-use Rattle.outlet.specs.declared.numbers.NumberOutlet.{NumberOutlet}
 use Rattle.outlet.specs.Entries.{Entry, cube, learnt, OutletLaws}
 use Rattle.outlet.specs.Memory.{grew_none, grew_more}
 use Rattle.outlet.specs.Numbers.{numbers, HoldsNumbers, KeepsNumbers}

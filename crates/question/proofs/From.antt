@@ -1,6 +1,6 @@
 -- From what was read to what is opened.
-use Rattle.std.proofs.Common.{◌≡◌, ℕ, ◌<◌, ◌≤◌, min, Bool, true, false, cond, ◌&&◌, leb, List, ◌++◌, length, take, drop, ℤ, IfOk, Ok, Err, Result, sym, refl, ap, ◌∙◌, subst, arith}
-use mathlib.Core.Option.{Option, none, some}
+use Rattle.std.proofs.Common.{◌≡◌, ℕ, ◌≤◌, min, true, leb, List, length, take, drop, ℤ, IfOk, Ok, Err, Result, sym, ap, ◌∙◌, subst, arith}
+use mathlib.Core.Option.{none, some}
 use native.Mathlib.Nat.{min-le_right}
 use Rattle.std.proofs.lemmas.List.{take_at, length-take}
 use Rattle.std.proofs.lemmas.Bool.{cond-true, le-leb, and_from}
@@ -8,16 +8,15 @@ use Rattle.rules.specs.declared.fault.Fault.{Fault}
 use Rattle.rules.specs.Literals.{Each}
 use Rattle.rules.specs.Rules.{Rule, clauses, odds, numbers, literals, Fits}
 use Rattle.reader.specs.declared.counts.Counts.{Counts}
-use Rattle.reader.specs.Spelling.{Spells}
 use Rattle.reader.specs.Reading.{laid}
-use Rattle.reader.specs.Theorem.{Accepted, Refused, ReadAs}
+use Rattle.reader.specs.Theorem.{Accepted, ReadAs}
 use Rattle.reader.proofs.Spelled.{reading_right}
 use Rattle.stores.specs.Stores.{Store}
-use Rattle.meaning.specs.Spelt.{Ruled, Filled, MeansRules, both_fault}
+use Rattle.meaning.specs.Spelt.{Filled, MeansRules}
 use Rattle.meaning.specs.Tables.{parts}
 use Rattle.meaning.proofs.Spelt.{filled_open, clauses_fit, odds_fit}
 use Rattle.meaning.proofs.Tables.{parts_numbers}
-use Rattle.question.specs.Questions.{Read_from, long_enough, used_fault, MeansText, CountedBy}
+use Rattle.question.specs.Questions.{Read_from, long_enough, used_fault, MeansText}
 
 front : (zs cs : List ℤ) (n : ℕ) → n ≡ length zs → take n (laid zs cs) ≡ zs
 front zs cs n e = take_at zs (drop (length zs) cs) n (sym e)

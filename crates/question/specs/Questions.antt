@@ -1,10 +1,10 @@
 -- What a text means is what the store over its tables means.
 use Rattle.std.specs.Prelude.{◌≡◌, ℕ, Bool, cond, ◌&&◌, List, length, take, ℤ, nat_le}
-use Rattle.std.proofs.Math.Option.{Option, none, some}
+use Rattle.std.proofs.Math.Option.{Option, some}
 use Rattle.rules.specs.Rules.{Rule, clauses, odds, numbers}
 use Rattle.reader.specs.declared.counts.Counts.{Counts}
 use Rattle.reader.specs.Spelling.{Spells}
-use Rattle.reader.specs.Reading.{Question, counts_of}
+use Rattle.reader.specs.Reading.{counts_of}
 use Rattle.stores.specs.Stores.{Store}
 use Rattle.meaning.specs.Spelt.{MeansRules, both_fault}
 

@@ -1,13 +1,11 @@
 -- A call of `read` in the words of the format.
-use Rattle.std.proofs.Common.{◌≡◌, ℕ, Bool, true, false, cond, List, length, ℤ, Ok, Err, Result, sym, refl, ap, ◌∙◌, subst, ⊎_elim, arith}
-use Rattle.std.proofs.lemmas.Bool.{cond-true, cond-false, cases_Bool}
+use Rattle.std.proofs.Common.{◌≡◌, ℕ, Bool, true, false, cond, List, length, ℤ, Ok, Err, Result, sym, refl, ap, ◌∙◌, subst}
 use Rattle.rules.specs.declared.fault.Fault.{Fault}
 use Rattle.rules.specs.declared.fault.Reason.TheVariants.{Short}
-use Rattle.rules.specs.Rules.{Rule, clauses, odds, numbers}
+use Rattle.rules.specs.Rules.{clauses, odds, numbers}
 use Rattle.reader.specs.declared.counts.Counts.{Counts}
-use Rattle.reader.specs.Spelling.{Spells}
 use Rattle.reader.specs.Reading.{faulty, Question, parse, roomy, counts_of, answer, laid, filled}
-use Rattle.reader.specs.Theorem.{Accepted, Refused, ReadAs}
+use Rattle.reader.specs.Theorem.{ReadAs}
 use Rattle.reader.proofs.Spelled.{reading_right}
 
 module _ (text : List ℕ) (cs os : List ℤ) where

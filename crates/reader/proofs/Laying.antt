@@ -1,11 +1,11 @@
 -- One table, filled from its start.
-use Rattle.std.proofs.Common.{◌≡◌, ℕ, ◌+◌, ◌<◌, ◌≤◌, Bool, true, false, cond, List, [], ◌∷◌, ◌++◌, length, get_or, take, drop, set, ℤ, nat_abs, codes, sym, refl, ap, ◌∙◌, subst, append_assoc, append-nil, arith, length-append, take-append-drop}
+use Rattle.std.proofs.Common.{◌≡◌, ℕ, ◌+◌, ◌<◌, ◌≤◌, Bool, true, false, List, [], ◌∷◌, ◌++◌, length, take, drop, set, ℤ, codes, sym, refl, ap, ◌∙◌, subst, append_assoc, append-nil, arith, length-append, take-append-drop}
 use Rattle.std.specs.Str.{bytes_eq}
 use Rattle.std.proofs.lemmas.List.{length-set, length-take-le, take_more_set, drop-set-lt, drop-drop}
-use Rattle.std.proofs.lemmas.Bool.{cond-true, cond-false, eq-eqb, ne_eqb}
+use Rattle.std.proofs.lemmas.Bool.{cond-true, cond-false}
 use Rattle.reader.specs.Tokens.{Token, token}
 use Rattle.reader.specs.Reading.{laid}
-use Rattle.reader.specs.Filling.{number_in, still_odd, goes_to, sent, sent_by}
+use Rattle.reader.specs.Filling.{number_in, still_odd, goes_to, sent_by}
 
 -- of whole, which is laid into the table start, left is still to be written, from the place at on
 pub record Laying (start table : List ℤ) (at : ℕ) (whole left : List ℤ) : Type 0 where

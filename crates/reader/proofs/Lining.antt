@@ -1,5 +1,5 @@
 -- The search for the header, from line to line.
-use Rattle.std.proofs.Common.{◌≡◌, ℕ, suc, ◌+◌, ◌-◌, ◌<◌, ◌≤◌, min, Bool, true, false, cond, not, ◌&&◌, eqb, leb, List, [], ◌∷◌, length, get_or, take, drop, Some, None, Ok, Err, Option, Result, sym, refl, ap, ◌∙◌, subst, ⊎_elim, add-one, one-add, arith}
+use Rattle.std.proofs.Common.{◌≡◌, ℕ, suc, ◌+◌, ◌-◌, ◌<◌, ◌≤◌, min, true, false, cond, not, eqb, List, [], ◌∷◌, length, take, drop, Some, None, Ok, Err, Option, Result, sym, refl, ap, ◌∙◌, subst, ⊎_elim, one-add, arith}
 use native.Mathlib.Nat.{min-eq_left, min-eq_right}
 use Rattle.std.proofs.lemmas.List.{drop-drop, drop_all, length-drop, length-take-le, take_all}
 use Rattle.std.proofs.lemmas.List.Sums.{prefix_len-le-length}
@@ -12,8 +12,8 @@ use Rattle.reader.specs.declared.cursor.Until.TheVariants.{Feed}
 use Rattle.reader.specs.declared.parts.Header.{Header as Headline}
 use Rattle.reader.specs.Lines.{lines, onto, words}
 use Rattle.reader.specs.Runs.{goes, run}
-use Rattle.reader.specs.Tokens.{Token, tokens, ahead}
-use Rattle.reader.specs.Reading.{faulty, Head, limited, head_of, found_at, is_silent, find_header}
+use Rattle.reader.specs.Tokens.{tokens, ahead}
+use Rattle.reader.specs.Reading.{faulty, Head, head_of, found_at, is_silent, find_header}
 use Rattle.reader.specs.Heads.{header_result}
 use Rattle.reader.specs.Turns.{HeaderRead}
 use Rattle.reader.proofs.Walks.{nothing_ahead}

@@ -1,16 +1,14 @@
 -- What the reader keeps from literal to literal and from rule to rule.
-use Rattle.std.proofs.Common.{◌≡◌, ℕ, ◌+◌, ◌<◌, ◌≤◌, Bool, true, false, cond, eqb, List, [], ◌∷◌, ◌++◌, length, ℤ, nat_abs, Some, None, Ok, Err, codes, Result, sym, refl, ap, ◌∙◌, subst, append_assoc, append-nil, arith}
+use Rattle.std.proofs.Common.{◌≡◌, ℕ, ◌+◌, Bool, true, false, cond, eqb, List, [], ◌∷◌, ◌++◌, length, ℤ, nat_abs, Some, None, Ok, Err, codes, sym, refl, ap, ◌∙◌, subst, append_assoc, append-nil, arith}
 use Rattle.std.proofs.lemmas.List.{length_push}
 use Rattle.std.proofs.lemmas.Bool.{cond-true, cond-false, eq-eqb, ne_eqb}
 use Rattle.rules.specs.declared.fault.Fault.{Fault}
 use Rattle.rules.specs.declared.fault.Reason.TheVariants.{Unended}
-use Rattle.rules.specs.Rules.{Rule}
 use Rattle.reader.specs.Numerals.{signed_numeral}
 use Rattle.reader.specs.Tokens.{Token, token}
-use Rattle.reader.specs.Reading.{faulty, Said, wrong, parity, gives, ends, Stage, between, inside, literal_says, rule_of, with_rule, follow, scan}
+use Rattle.reader.specs.Reading.{faulty, Said, wrong, parity, gives, ends, between, inside, literal_says, follow, scan}
 use Rattle.reader.specs.Marks.{Marked, said_by, grown}
 use Rattle.std.specs.Str.{bytes_eq}
-use Rattle.reader.specs.declared.parts.Shape.{Shape}
 use Rattle.reader.specs.Turns.{LiteralsRead, RuleRead}
 
 -- a word inside a rule

@@ -1,10 +1,10 @@
 -- What a literal says inside a rule, by the stamps of its variables.
-use Rattle.std.proofs.Common.{◌≡◌, ℕ, ◌+◌, ◌-◌, ◌<◌, ◌≤◌, Bool, true, false, cond, eqb, ltb, List, [], ◌∷◌, ◌++◌, length, get_or, set, ℤ, nat_abs, Some, sym, refl, ap, ◌∙◌, subst, arith}
+use Rattle.std.proofs.Common.{◌≡◌, ℕ, ◌-◌, ◌<◌, ◌≤◌, true, false, cond, eqb, ltb, List, [], ◌∷◌, ◌++◌, length, get_or, set, ℤ, nat_abs, Some, sym, ap, ◌∙◌, subst, arith}
 use Rattle.std.proofs.lemmas.Bool.{cond-true, cond-false, ne_eqb, le-ltb}
 use Rattle.rules.specs.declared.fault.Reason.TheVariants.{Variable, Repeated}
 use Rattle.rules.specs.Literals.{place}
-use Rattle.reader.specs.Reading.{Said, wrong, gives, ends, named, literal_says}
-use Rattle.reader.specs.Marks.{has_place, Marked, grown}
+use Rattle.reader.specs.Reading.{wrong, gives, ends, literal_says}
+use Rattle.reader.specs.Marks.{Marked, grown}
 use Rattle.reader.proofs.Stamps.{named_is, place_is, marked_more}
 
 module _ {ss : List ℕ} {top : ℕ} (n : ℕ) {ls : List ℤ} (z : ℤ) (m : Marked ss top ls) (some : 0 < nat_abs z) (low : nat_abs z ≤ n) (few : n ≤ 2048) where

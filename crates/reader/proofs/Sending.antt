@@ -1,9 +1,9 @@
 -- The words that spell rules send those rules' numbers to the tables.
-use Rattle.std.proofs.Common.{◌≡◌, ℕ, zero, suc, ◌^◌, ◌<◌, ◌≤◌, Bool, true, false, cond, eqb, List, [], ◌∷◌, ◌++◌, map, ℤ, pos, negsuc, nat_abs, Ok, codes, unwrap_or, sym, refl, ap, ◌∙◌, subst, append_assoc, arith}
+use Rattle.std.proofs.Common.{◌≡◌, ℕ, zero, suc, ◌^◌, ◌<◌, ◌≤◌, Bool, true, false, eqb, List, [], ◌∷◌, ◌++◌, map, ℤ, pos, negsuc, nat_abs, Ok, codes, unwrap_or, refl, ap, ◌∙◌, append_assoc, arith}
 use Rattle.std.specs.List.{flat_map}
 use Rattle.std.specs.Fmt.{signed_decimal}
 use Rattle.std.specs.Str.{bytes_eq}
-use Rattle.std.proofs.lemmas.Bool.{cond-true, cond-false, ne_eqb}
+use Rattle.std.proofs.lemmas.Bool.{cond-false, ne_eqb}
 use Rattle.rules.specs.Literals.{Literal, Each}
 use Rattle.rules.specs.Rules.{Rule, clause, odd, literals, Fits, clauses, odds, numbers}
 use Rattle.reader.specs.Spelling.{rule_words}

@@ -1,15 +1,15 @@
 -- What the cursor keeps from byte to byte and from word to word.
-use Rattle.std.proofs.Common.{◌≡◌, ℕ, suc, ◌+◌, ◌-◌, ◌<◌, ◌≤◌, Bool, true, false, cond, not, ◌||◌, eqb, List, [], ◌∷◌, length, get_or, take, drop, sym, refl, ap, ◌∙◌, subst, ⊎_elim, add-zero, add-suc, add-one, one-add, arith}
+use Rattle.std.proofs.Common.{◌≡◌, ℕ, suc, ◌+◌, ◌<◌, ◌≤◌, true, false, cond, eqb, List, [], ◌∷◌, length, get_or, take, drop, sym, refl, ap, ◌∙◌, ⊎_elim, add-zero, add-one, one-add, arith}
 use Rattle.std.specs.List.{prefix_len}
 use Rattle.std.proofs.lemmas.List.{at_drop_more, at_drop_all, drop-drop, drop_more}
-use Rattle.std.proofs.lemmas.List.Sums.{prefix_len-drop_yes, prefix_len-drop_no, prefix_len-drop_all}
-use Rattle.std.proofs.lemmas.Bool.{cond-true, cond-false, or_parts, both_ways, not_from_false, cases_Bool, not-true}
+use Rattle.std.proofs.lemmas.List.Sums.{prefix_len-drop_yes}
+use Rattle.std.proofs.lemmas.Bool.{cond-true, cond-false, or_parts, both_ways, not_from_false, cases_Bool}
 use Rattle.reader.specs.declared.cursor.Mode.{Mode}
 use Rattle.reader.specs.declared.cursor.Mode.TheVariants.{Start, Within, Comment}
 use Rattle.reader.specs.declared.cursor.Until.TheVariants.{Blank}
 use Rattle.reader.specs.Lines.{blank}
 use Rattle.reader.specs.Runs.{goes}
-use Rattle.reader.specs.Tokens.{Token, skips, passed, extends, opens, tokens, ahead}
+use Rattle.reader.specs.Tokens.{skips, passed, extends, opens, tokens, ahead}
 
 -- from the place start in the mode m the cursor has come to at, and no word lay between
 pub record Skipped (text : List ℕ) (start : ℕ) (m : Mode) (at : ℕ) (k : Mode) : Type 0 where

@@ -1,5 +1,5 @@
 -- A text as a whole: the header, the rules, their number, the tables.
-use Rattle.std.proofs.Common.{◌≡◌, ℕ, ◌+◌, ◌<◌, ◌≤◌, Bool, true, false, cond, ◌&&◌, eqb, leb, List, [], ◌∷◌, length, drop, ℤ, Ok, Err, Result, sym, refl, ap, ◌∙◌, subst, arith}
+use Rattle.std.proofs.Common.{◌≡◌, ℕ, ◌+◌, ◌≤◌, Bool, true, false, cond, eqb, List, [], ◌∷◌, length, ℤ, Ok, Err, Result, sym, refl, ap, ◌∙◌, subst, arith}
 use Rattle.std.proofs.lemmas.Bool.{cond-true, cond-false, eq-eqb, ne_eqb, le-leb, and_from}
 use Rattle.rules.specs.declared.fault.Fault.{Fault}
 use Rattle.rules.specs.declared.fault.Reason.TheVariants.{Count}
@@ -8,10 +8,9 @@ use Rattle.reader.specs.declared.parts.Header.{Header}
 use Rattle.reader.specs.declared.parts.Plan.{Plan}
 use Rattle.reader.specs.declared.parts.Tally.{Tally}
 use Rattle.reader.specs.declared.cursor.Mode.{Mode}
-use Rattle.reader.specs.Lines.{lines}
 use Rattle.reader.specs.Tokens.{ahead}
-use Rattle.reader.specs.Reading.{faulty, find_header, scan, between, Question, counted, after_header, parse, roomy, counts_of, answer, laid, filled}
-use Rattle.reader.specs.Turns.{HeaderRead, Tallied, RulesRead, Planned, Checked}
+use Rattle.reader.specs.Reading.{faulty, scan, between, Question, counted, after_header, parse, roomy, answer, laid, filled}
+use Rattle.reader.specs.Turns.{HeaderRead, RulesRead, Planned}
 use Rattle.reader.specs.Filling.{sent_by}
 use Rattle.reader.proofs.Sending.{part, sent_is}
 

@@ -1,5 +1,5 @@
 -- What the words of a text that was checked write into the two tables.
-use Rattle.std.specs.Prelude.{ℕ, Bool, true, false, cond, List, [], ◌∷◌, map, ℤ, pos, Some, None, codes, Option, ◌==◌, unsigned_abs}
+use Rattle.std.specs.Prelude.{ℕ, Bool, true, false, cond, List, [], ◌∷◌, map, ℤ, pos, codes, ◌==◌, unsigned_abs}
 use Rattle.std.specs.Option.{unwrap_or}
 use Rattle.std.specs.Str.{bytes_eq}
 use Rattle.reader.specs.Numerals.{signed_numeral}

@@ -1,5 +1,5 @@
 -- Which variables a rule has named so far, kept as a stamp for each variable.
-use Rattle.std.specs.Prelude.{◌≡◌, ℕ, ◌<◌, Bool, true, false, cond, ◌&&◌, ◌||◌, List, [], ◌∷◌, ◌++◌, length, ℤ, Ok, Err, Result, ◌==◌, nat_le, slice_index, unsigned_abs}
+use Rattle.std.specs.Prelude.{◌≡◌, ℕ, ◌<◌, Bool, true, false, cond, ◌&&◌, ◌||◌, List, [], ◌∷◌, ◌++◌, ℤ, Ok, Err, Result, ◌==◌, nat_le, slice_index, unsigned_abs}
 use Rattle.rules.specs.declared.fault.Fault.{Fault}
 use Rattle.rules.specs.Literals.{place}
 use Rattle.reader.specs.Reading.{Said, wrong, gives, ends}

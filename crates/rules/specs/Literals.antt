@@ -1,5 +1,5 @@
 -- Literals, partial and full assignments.
-use Rattle.std.specs.Prelude.{◌≡◌, Bool, true, false, ◌&&◌, ◌||◌, cond, List, [], ◌∷◌, ◌⊎◌, ℕ, zero, suc, ◌≤◌, ◌<◌, length, get_or, set, ℤ, pos, negsuc, eqb}
+use Rattle.std.specs.Prelude.{◌≡◌, Bool, true, ◌&&◌, List, [], ◌∷◌, ◌⊎◌, ℕ, zero, suc, ◌≤◌, ◌<◌, length, get_or, set, ℤ, pos, negsuc, eqb}
 
 -- A literal is a variable v, from 1 on, or its negation -v. An assignment has a byte for each variable:
 -- 0 free, 1 true, 2 false. The place of a literal is the index of its variable's byte,

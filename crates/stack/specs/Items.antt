@@ -1,5 +1,5 @@
 -- What a stack over lent memory holds.
-use Rattle.std.specs.Prelude.{ℕ, ◌≤◌, Bool, true, false, cond, List, [], ◌∷◌, ◌++◌, length, take, drop, Ok, Err, Result, nat_lt}
+use Rattle.std.specs.Prelude.{ℕ, ◌≤◌, Bool, cond, List, [], ◌∷◌, ◌++◌, length, take, drop, Ok, Err, Result, nat_lt}
 use Rattle.stack.specs.declared.kinds.Refusal.{Refusal}
 use Rattle.stack.specs.declared.kinds.Refusal.TheVariants.{Short}
 use Rattle.stack.specs.declared.Stack.{Stack}

@@ -1,9 +1,8 @@
 -- One rule of a walk over all rules, as the loops have it.
-use Rattle.std.proofs.Common.{◌≡◌, ℕ, zero, suc, ◌+◌, ◌-◌, ◌*◌, ◌<◌, ◌≤◌, Bool, true, false, cond, ◌&&◌, eqb, ltb, List, sym, refl, ap, ◌∙◌, arith}
+use Rattle.std.proofs.Common.{◌≡◌, ℕ, zero, suc, ◌+◌, ◌-◌, ◌*◌, ◌<◌, ◌≤◌, Bool, true, false, cond, ◌&&◌, eqb, ltb, List, sym, ap, ◌∙◌, arith}
 use Rattle.stores.specs.declared.look.Look.{Look}
 use Rattle.stores.specs.declared.look.Look.TheVariants.{Settled, Broken, Forces, Open}
-use Rattle.stores.specs.declared.look.Find.{Find}
-use Rattle.stores.specs.declared.look.Find.TheVariants.{Nothing, Clash, Force}
+use Rattle.stores.specs.declared.look.Find.TheVariants.{Nothing}
 use Rattle.stores.specs.Stores.{Store}
 use Rattle.stores.specs.Walks.{found_by, found, is_settled, settled_from, unsettled_by, unsettled_from, weight, gain_of, gain_from}
 

@@ -1,5 +1,5 @@
 -- A walk over the rules of a table, as a walk over a list of rules of either kind.
-use Rattle.std.proofs.Common.{◌≡◌, ℕ, zero, suc, ◌+◌, ◌-◌, ◌*◌, ◌<◌, ◌≤◌, Bool, true, false, ◌&&◌, List, [], ◌∷◌, length, get_or, drop, ℤ, Some, None, sym, refl, ap, ◌∙◌, arith}
+use Rattle.std.proofs.Common.{◌≡◌, ℕ, zero, suc, ◌+◌, ◌-◌, ◌*◌, ◌≤◌, Bool, true, false, ◌&&◌, List, [], ◌∷◌, length, get_or, drop, ℤ, Some, None, sym, refl, ap, ◌∙◌, arith}
 use Rattle.stores.specs.declared.look.Look.{Look}
 use Rattle.stores.specs.declared.look.Look.TheVariants.{Settled, Broken, Forces, Open}
 use Rattle.stores.specs.declared.look.Find.{Find}

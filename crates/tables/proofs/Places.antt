@@ -2,7 +2,7 @@
 use Rattle.std.proofs.Common.{◌≡◌, ℕ, zero, suc, ◌+◌, ◌-◌, ◌<◌, ◌≤◌, Bool, true, false, cond, leb, List, [], ◌∷◌, ◌++◌, length, get_or, take, drop, ℤ, pos, sym, refl, ap, ◌∙◌, subst, arith, length-append, length-drop, drop-cons}
 use Rattle.std.proofs.lemmas.Bool.{and_parts, leb-true}
 use Rattle.std.proofs.lemmas.List.{drop-drop}
-use Rattle.rules.specs.Literals.{Each, Literal}
+use Rattle.rules.specs.Literals.{Each}
 use Rattle.rules.specs.Rules.{Fits, numbers}
 use Rattle.meaning.specs.Tables.{is_end, parts, opens, is_rule, start_of}
 use Rattle.meaning.specs.Listed.{nth_rule}

@@ -1,11 +1,10 @@
 -- The rules of a table, one after the other from an index on.
-use Rattle.std.proofs.Common.{◌≡◌, ℕ, zero, suc, ◌+◌, ◌-◌, ◌<◌, ◌≤◌, Bool, true, false, cond, ◌||◌, List, [], ◌∷◌, ◌++◌, length, get_or, take, drop, ℤ, pos, negsuc, sym, refl, ap, ◌∙◌, subst, ⊎_elim, arith, length-append, length-drop, w32, SFits, of_z}
+use Rattle.std.proofs.Common.{◌≡◌, ℕ, zero, suc, ◌+◌, ◌<◌, ◌≤◌, Bool, true, false, cond, ◌||◌, List, [], ◌∷◌, ◌++◌, length, get_or, drop, ℤ, pos, negsuc, sym, refl, ap, ◌∙◌, subst, ⊎_elim, arith, length-append, length-drop, w32, SFits, of_z}
 use Rattle.std.proofs.lemmas.List.{at_drop_more, at_drop_all, drop-drop}
 use Rattle.std.proofs.lemmas.Bool.{true≢false, cases_lt}
 use Rattle.rules.specs.Literals.{Each, Literal}
 use Rattle.rules.specs.Rules.{Fits, numbers}
-use Rattle.meaning.specs.Tables.{is_end, parts, opens, start_of}
-use Rattle.meaning.specs.Listed.{nth_rule}
+use Rattle.meaning.specs.Tables.{is_end, parts, opens}
 use Rattle.meaning.proofs.Tables.{literal_lit, parts_rule, parts_numbers, opened_rules}
 use Rattle.tables.specs.Scan.{front, has_end, next_of}
 

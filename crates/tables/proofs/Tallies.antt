@@ -1,8 +1,7 @@
 -- The tally of a rule's literals.
-use Rattle.std.proofs.Common.{◌≡◌, ℕ, zero, suc, ◌+◌, ◌<◌, ◌≤◌, Bool, true, false, cond, eqb, List, [], ◌∷◌, length, get_or, drop, ℤ, pos, nat_abs, sym, refl, ap, ◌∙◌, subst, arith}
+use Rattle.std.proofs.Common.{◌≡◌, ℕ, zero, suc, ◌+◌, ◌≤◌, Bool, true, false, cond, eqb, List, [], ◌∷◌, length, get_or, drop, ℤ, pos, nat_abs, sym, refl, ap, ◌∙◌, subst, arith}
 use Rattle.rules.specs.Literals.{Each, Literal, place, side, is_true}
 use Rattle.rules.specs.Rules.{true_count}
-use Rattle.stores.specs.declared.look.Look.{Look}
 use Rattle.meaning.specs.declared.Kind.{Kind}
 use Rattle.meaning.specs.declared.Kind.TheVariants.{Clause, Odd}
 use Rattle.meaning.specs.Tables.{is_end}

@@ -1,5 +1,5 @@
 -- The text with one more entry.
-use Rattle.std.proofs.Common.{◌≡◌, ℕ, ◌+◌, ◌-◌, ◌*◌, ◌^◌, ◌<◌, ◌≤◌, Bool, true, ◌&&◌, ltb, leb, List, [], ◌∷◌, ◌++◌, length, take, ℤ, decimal, sym, refl, ap, ◌∙◌, append_assoc, arith, length-append, length-take}
+use Rattle.std.proofs.Common.{◌≡◌, ℕ, ◌+◌, ◌-◌, ◌*◌, ◌^◌, ◌<◌, ◌≤◌, true, ltb, leb, List, [], ◌∷◌, ◌++◌, length, ℤ, sym, refl, ap, ◌∙◌, append_assoc, arith, length-append, length-take}
 use Rattle.std.specs.List.{AllByRecursion as All}
 use Rattle.std.proofs.ByRecursion.{All-push}
 use Rattle.std.proofs.lemmas.List.{append-nil}
@@ -7,8 +7,8 @@ use Rattle.std.proofs.lemmas.Bool.{lt-ltb}
 use Rattle.outlet.specs.declared.kinds.Kind.{Kind}
 use Rattle.outlet.specs.declared.kinds.Kind.TheVariants.{Cube, Learnt}
 use Rattle.outlet.specs.Entries.{Entry, cube, learnt, entry_of}
-use Rattle.lines.specs.Lines.{line, lines, text, parted, of_kind, cubes_in, learnt_in, Narrow, NarrowEntry}
-use Rattle.lines.proofs.Pieces.{line_long, same_leb}
+use Rattle.lines.specs.Lines.{line, lines, text, of_kind, cubes_in, learnt_in, Narrow, NarrowEntry}
+use Rattle.lines.proofs.Pieces.{line_long}
 use Rattle.textoutlet.specs.declared.out.TextOutlet.{TextOutlet}
 use Rattle.textoutlet.specs.TextHeld.{HoldsText, text_fit, room_for}
 

@@ -1,5 +1,5 @@
 -- The text outlet keeps the laws: above all, the entries can be told back from the text.
-use Rattle.std.specs.Prelude.{◌≡◌, refl}
+use Rattle.std.specs.Prelude.{refl}
 use Rattle.std.proofs.Common.{sym, ◌∙◌}
 use Rattle.outlet.specs.Entries.{OutletLaws}
 use Rattle.outlet.specs.Memory.{grew_none, grew_more}

@@ -1,4 +1,4 @@
-use Rattle.std.proofs.Common.{◌≡◌, ◌+◌, ◌-◌, ◌<◌, ◌≤◌, length, drop, sym, ◌∙◌, rules}
+use Rattle.std.proofs.Common.{◌<◌, length, drop, sym, ◌∙◌, rules}
 use Rattle.std.proofs.lemmas.List.{get_or-drop}
 use Rattle.stack.proofs.item_behind.Goals as goal
 

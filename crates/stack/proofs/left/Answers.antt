@@ -1,4 +1,4 @@
-use Rattle.std.proofs.Common.{◌≡◌, sym, ◌∙◌, length-drop}
+use Rattle.std.proofs.Common.{sym, ◌∙◌, length-drop}
 use Rattle.stack.proofs.left.Goals as goal
 
 pub returns : goal.returns

@@ -1,4 +1,4 @@
-use Rattle.std.proofs.Common.{◌≡◌, ◌<◌, ◌≤◌, length, sym, refl, arith}
+use Rattle.std.proofs.Common.{◌<◌, ◌≤◌, length, sym, refl, arith}
 use Rattle.std.proofs.lemmas.List.{take_more_set, take-set, set_past}
 use Rattle.std.proofs.lemmas.Bool.{lt-ltb, le-ltb}
 use Rattle.stack.proofs.place.Goals as goal

@@ -1,7 +1,7 @@
 use Rattle.std.proofs.Common.{◌≡◌, ℕ, suc, ◌+◌, ◌<◌, eqb, List, [], ◌∷◌, ◌++◌, length, get_or, take, sym, ap, ◌∙◌, add-zero, arith, w32, SFits, to_z, of_z, rules}
 use Rattle.std.proofs.lemmas.Int.{to_z-of_z}
 use Rattle.std.proofs.lemmas.List.{take_more, take_all, length-take-le}
-use Rattle.stack.specs.Items.{items, size}
+use Rattle.stack.specs.Items.{size}
 use Rattle.lookahead.specs.Trials.{literal_of}
 use Rattle.branches.specs.Spelled.{literals_of}
 use Rattle.branches.proofs.filling.lay_model.Goals as goal

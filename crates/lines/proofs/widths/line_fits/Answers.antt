@@ -1,6 +1,6 @@
-use Rattle.std.proofs.Common.{◌≡◌, ◌+◌, ◌-◌, ◌<◌, leb, length, get_or, take, drop, pos, sym, ap, ◌∙◌, arith, w32, to_z, of_z, rules}
+use Rattle.std.proofs.Common.{◌≡◌, ◌+◌, ◌-◌, ◌<◌, leb, length, get_or, take, drop, pos, ap, ◌∙◌, arith, w32, to_z, of_z, rules}
 use Rattle.std.proofs.lemmas.List.{nil_from_length}
-use Rattle.lines.specs.Lines.{spaced, parted, line}
+use Rattle.lines.specs.Lines.{spaced, parted}
 use Rattle.lines.proofs.Pieces.{parted_long, line_long, leaves_some, same_leb}
 use Rattle.lines.proofs.widths.line_fits.Goals as goal
 

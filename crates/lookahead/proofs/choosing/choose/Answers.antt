@@ -1,9 +1,9 @@
-use Rattle.std.proofs.Common.{◌≡◌, ◌+◌, ◌<◌, ◌≤◌, false, map, length, get_or, drop, pos, Some, None, sym, ap, ◌∙◌, arith, w32, SFits, rules}
+use Rattle.std.proofs.Common.{◌≡◌, ◌+◌, ◌≤◌, false, map, length, get_or, drop, pos, Some, sym, ap, ◌∙◌, arith, w32, SFits, rules}
 use Rattle.std.proofs.lemmas.Int.{to_z-of_z}
 use Rattle.std.proofs.lemmas.List.{at_drop_more, at_drop_all}
 use Rattle.rules.specs.Literals.{Literal, place}
 use Rattle.stack.specs.declared.kinds.Record.{Record}
-use Rattle.lookahead.specs.Nodes.{best, best_from, better_if}
+use Rattle.lookahead.specs.Nodes.{best_from, better_if}
 use Rattle.lookahead.specs.Answers.{noted, best_note, literal_in}
 use Rattle.lookahead.proofs.News.{each_in}
 use Rattle.lookahead.proofs.choosing.choose.Goals as goal

@@ -1,4 +1,4 @@
-use Rattle.std.proofs.Common.{◌≡◌, ◌+◌, ◌<◌, ◌≤◌, length, set, sym, ap, ◌∙◌, subst, arith}
+use Rattle.std.proofs.Common.{◌+◌, ◌<◌, length, set, sym, subst, arith}
 use Rattle.lookahead.proofs.Asked.{Filling, filling_ends, filling_more}
 use Rattle.lookahead.proofs.choosing.fill.Goals as goal
 

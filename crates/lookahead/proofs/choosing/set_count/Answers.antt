@@ -1,4 +1,4 @@
-use Rattle.std.proofs.Common.{◌≡◌, ◌+◌, ◌<◌, ◌≤◌, length, sym, ap, ◌∙◌, subst, arith}
+use Rattle.std.proofs.Common.{◌+◌, sym, subst, arith}
 use Rattle.lookahead.proofs.Asked.{Counted, counted_ends, counted_more}
 use Rattle.lookahead.proofs.choosing.set_count.Goals as goal
 

@@ -1,5 +1,4 @@
-use Rattle.std.proofs.Common.{◌≡◌, length, drop}
-use Rattle.rules.specs.Literals.{Literal, Each}
+use Rattle.std.proofs.Common.{◌≡◌, drop}
 use Rattle.lookahead.specs.Answers.{set_all}
 use Rattle.lookahead.proofs.literals.adopt.Given as goal
 

@@ -1,9 +1,9 @@
-use Rattle.std.proofs.Common.{◌≡◌, ◌+◌, ◌-◌, ◌<◌, ◌≤◌, map, length, take, set, sym, ap, ◌∙◌, subst, arith}
-use Rattle.rules.specs.Literals.{Partial, Extends, free}
+use Rattle.std.proofs.Common.{◌+◌, ◌-◌, ◌<◌, ◌≤◌, map, length, take, set, sym, ◌∙◌, subst, arith}
+use Rattle.rules.specs.Literals.{Extends, free}
 use Rattle.closing.proofs.Right.{right}
-use Rattle.lookahead.specs.Trials.{by_gains, pass, lookahead, rank_of, scored}
+use Rattle.lookahead.specs.Trials.{by_gains, pass, rank_of, scored}
 use Rattle.lookahead.specs.Answers.{noted}
-use Rattle.lookahead.proofs.Passing.{Passing, free_mono, passing_starts, passing_set, passing_dead, note_room, passing_kept, passing_ranked, passing_ends, looks_clash, looks_on, moved}
+use Rattle.lookahead.proofs.Passing.{free_mono, passing_starts, passing_set, passing_dead, note_room, passing_kept, passing_ranked, passing_ends, looks_clash, looks_on, moved}
 use Rattle.lookahead.proofs.looking.look_ahead.Goals as goal
 use Rattle.lookahead.proofs.looking.look_ahead.Goals.{then-is_free+in-Kept, then-is_free+in-Ranked, else-is_free}
 

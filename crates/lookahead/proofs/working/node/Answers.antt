@@ -1,12 +1,12 @@
-use Rattle.std.proofs.Common.{◌≡◌, ℕ, ◌-◌, ◌≤◌, Bool, true, false, List, map, length, take, sym, ap, ◌∙◌, subst, arith}
+use Rattle.std.proofs.Common.{◌≡◌, ℕ, ◌-◌, Bool, true, false, List, map, length, take, sym, ap, ◌∙◌, subst, arith}
 use Rattle.rules.specs.Literals.{Literal, Partial, Each}
 use Rattle.stack.specs.declared.kinds.Record.{Record}
 use Rattle.cutoff.specs.declared.kinds.Cutoff.{Cutoff}
-use Rattle.cutoff.specs.Theta.{grow, shrink}
+use Rattle.cutoff.specs.Theta.{shrink}
 use Rattle.cutoff.specs.Cutoffs.{eased, cuts_at}
 use Rattle.lookahead.specs.Trials.{Scored, by_gains}
-use Rattle.lookahead.specs.Nodes.{model, decide, deepened, best, set_in}
-use Rattle.lookahead.specs.Answers.{noted, worked, literal_in, node_of}
+use Rattle.lookahead.specs.Nodes.{deepened, best, set_in}
+use Rattle.lookahead.specs.Answers.{noted, worked, literal_in}
 use Rattle.lookahead.specs.declared.kinds.Outcome.TheVariants as outcome
 use Rattle.lookahead.proofs.Passes.{alive_means}
 use Rattle.lookahead.proofs.Right.{right}

@@ -1,4 +1,4 @@
-use Rattle.std.proofs.Common.{◌≡◌, length, take, sym, ap, ◌∙◌, subst}
+use Rattle.std.proofs.Common.{length, take, sym, ap, ◌∙◌, subst}
 use Rattle.meaning.specs.Spelt.{Filled}
 use Rattle.meaning.specs.Tables.{parts}
 use Rattle.question.proofs.From.{means_text, clauses_counted, odds_counted}

@@ -1,6 +1,6 @@
-use Rattle.std.proofs.Common.{◌≡◌, List, [], length, refl, ◌∙◌, rules}
+use Rattle.std.proofs.Common.{◌≡◌, length, ◌∙◌, rules}
 use Rattle.std.proofs.lemmas.List.{nil_from_length}
-use Rattle.reader.proofs.Fields.{stops_at_p, stops_at_cnf, stops_at_variables, stops_at_rules, goes_too_far, ends_well}
+use Rattle.reader.proofs.Fields.{stops_at_p, stops_at_cnf, stops_at_variables, stops_at_rules, ends_well}
 use Rattle.reader.proofs.header.header.Goals as goal
 
 pub returns-then-not-is_p : goal.returns-then-not-is_p

@@ -1,4 +1,4 @@
-use Rattle.std.proofs.Common.{◌≤◌, get_or, sym, arith}
+use Rattle.std.proofs.Common.{sym, arith}
 use Rattle.reader.proofs.Digits.{reading_none, reading_fits, reading_more, reading_bad, reading_all, reading_small}
 use Rattle.reader.proofs.numerals.digits.Goals as goal
 

@@ -1,4 +1,4 @@
-use Rattle.std.proofs.Common.{◌≡◌, ◌-◌, ◌<◌, ◌≤◌, cond, eqb, get_or, set, ℤ, nat_abs, sym, refl, ap, ◌∙◌, subst, w32, to_z, of_z, rules}
+use Rattle.std.proofs.Common.{◌≡◌, ◌-◌, ◌<◌, ◌≤◌, cond, eqb, get_or, set, nat_abs, sym, refl, ap, ◌∙◌, subst, w32, to_z, of_z, rules}
 use Rattle.reader.specs.Reading.{literal_says, gives, ends}
 use Rattle.reader.specs.Marks.{Marked, grown}
 use Rattle.reader.proofs.Saying.{says_repeated, says_given, marked_grown}

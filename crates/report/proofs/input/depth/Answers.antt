@@ -1,4 +1,4 @@
-use Rattle.std.proofs.Common.{◌≡◌, ◌≤◌, List, length, get_or, sym, refl, ap, ◌∙◌, rules}
+use Rattle.std.proofs.Common.{◌∙◌, rules}
 use Rattle.report.proofs.Depths.{Headed, no_number, some_number}
 use Rattle.report.proofs.input.depth.Goals as goal
 

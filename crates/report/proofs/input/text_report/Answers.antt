@@ -1,4 +1,4 @@
-use Rattle.std.proofs.Common.{◌≡◌, List, length, pos, IfOk, Ok, Err, string_bytes, sym, refl, ap, ◌∙◌, subst}
+use Rattle.std.proofs.Common.{◌≡◌, pos, IfOk, Ok, Err, string_bytes, ◌∙◌, subst}
 use Rattle.std.proofs.lemmas.List.{length-replicate}
 use Rattle.report.specs.Report.{read_line}
 use Rattle.report.proofs.Reports.{reported}

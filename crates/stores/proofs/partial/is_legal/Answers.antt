@@ -1,4 +1,4 @@
-use Rattle.std.proofs.Common.{◌≡◌, sym, ◌∙◌, arith}
+use Rattle.std.proofs.Common.{sym, ◌∙◌, arith}
 use Rattle.stores.proofs.Bytes.{legal_no, legal_yes, legal_end}
 use Rattle.stores.proofs.partial.is_legal.Goals as goal
 

@@ -1,4 +1,4 @@
-use Rattle.std.proofs.Common.{◌≡◌, get_or, ℤ, pos, refl, arith, w32, SFits, rules}
+use Rattle.std.proofs.Common.{get_or, ℤ, pos, refl, arith, w32, SFits, rules}
 use Rattle.tables.proofs.Rows.{end_bits, lit_bits, past_starts, past_lit, past_end}
 use Rattle.tables.proofs.scan.next_rule.Goals as goal
 

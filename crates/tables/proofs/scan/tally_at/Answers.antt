@@ -1,4 +1,4 @@
-use Rattle.std.proofs.Common.{◌≡◌, false, length, get_or, ℤ, pos, sym, refl, ap, ◌∙◌, subst, arith, w32, SFits, to_z, of_z, rules}
+use Rattle.std.proofs.Common.{◌≡◌, false, length, get_or, ℤ, pos, sym, refl, ap, ◌∙◌, subst, w32, SFits, to_z, of_z, rules}
 use Rattle.std.proofs.lemmas.Int.{to_z-of_z}
 use Rattle.rules.specs.Literals.{Literal}
 use Rattle.meaning.specs.Tables.{is_end}

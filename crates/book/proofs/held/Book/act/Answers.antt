@@ -1,7 +1,7 @@
-use Rattle.std.proofs.Common.{◌≡◌, ◌-◌, ◌<◌, ◌≤◌, length, take, sym, refl, ap, ◌∙◌, arith}
+use Rattle.std.proofs.Common.{◌-◌, ◌<◌, ◌≤◌, length, take, ap, ◌∙◌, arith}
 use lib.Seq.{take-set-lt}
 use Rattle.std.proofs.lemmas.List.{drop-set-lt, length-take-le}
-use Rattle.book.specs.Marks.{moved_from, mark_at}
+use Rattle.book.specs.Marks.{moved_from}
 use Rattle.book.proofs.Rows.{within}
 use Rattle.book.proofs.held.Book.act.Goals as goal
 

@@ -1,4 +1,4 @@
-use Rattle.std.proofs.Common.{sym, ap, rules}
+use Rattle.std.proofs.Common.{rules}
 use Rattle.cutoff.proofs.Ranges.{nearest}
 use Rattle.cutoff.proofs.kinds.Cutoff.check.Goals as goal
 

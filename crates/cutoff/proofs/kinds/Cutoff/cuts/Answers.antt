@@ -1,4 +1,4 @@
-use Rattle.std.proofs.Common.{◌≡◌, inl, inr, rules}
+use Rattle.std.proofs.Common.{◌≡◌, rules}
 use Rattle.cutoff.specs.Cutoffs.{cuts_at}
 use Rattle.cutoff.proofs.Cutting.{cutting}
 use Rattle.cutoff.proofs.kinds.Cutoff.cuts.Goals as goal

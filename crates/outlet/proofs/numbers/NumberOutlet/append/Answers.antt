@@ -1,4 +1,4 @@
-use Rattle.std.proofs.Common.{◌≡◌, ◌+◌, ◌≤◌, [], ◌∷◌, ◌++◌, length, pos, sym, refl, ap, ◌∙◌, arith, rules}
+use Rattle.std.proofs.Common.{◌≡◌, ◌+◌, ◌≤◌, ◌∷◌, ◌++◌, length, pos, sym, refl, ap, ◌∙◌, arith, rules}
 use Rattle.outlet.specs.Entries.{entry_of}
 use Rattle.outlet.specs.Numbers.{numbers, kind_number}
 use Rattle.outlet.specs.Memory.{laid}

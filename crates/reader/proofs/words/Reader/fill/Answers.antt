@@ -1,7 +1,7 @@
-use Rattle.std.proofs.Common.{◌≡◌, ◌<◌, Bool, true, false, cond, List, [], ◌∷◌, length, ℤ, pos, unwrap_or, sym, refl, ap, ◌∙◌, subst, w32, to_z, of_z, rules}
+use Rattle.std.proofs.Common.{◌≡◌, Bool, true, false, cond, ◌∷◌, pos, unwrap_or, sym, refl, ap, ◌∙◌, subst, w32, to_z, of_z, rules}
 use Rattle.reader.specs.Tokens.{token, ahead}
 use Rattle.reader.specs.Filling.{number_in, still_odd, goes_to, sent_by}
-use Rattle.reader.proofs.Laying.{Laying, laying_none, laying_same, laying_room, laying_more, laying_all, sent_odd, sent_number}
+use Rattle.reader.proofs.Laying.{laying_same, laying_room, laying_more, laying_all, sent_number}
 use Rattle.reader.proofs.words.Reader.fill.Goals as goal
 use Rattle.reader.proofs.words.Reader.fill.Goals.{In-Some, After-unwrap_or-z}
 

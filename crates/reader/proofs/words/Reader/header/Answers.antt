@@ -1,5 +1,4 @@
-use Rattle.std.proofs.Common.{◌≡◌, ◌+◌, min, List, length, take, drop, sym, refl, ap, ◌∙◌, subst, arith}
-use Rattle.reader.specs.declared.cursor.Mode.TheVariants.{Start}
+use Rattle.std.proofs.Common.{◌≡◌, ◌+◌, min, length, take, drop, sym, ap, ◌∙◌, subst}
 use Rattle.reader.specs.declared.cursor.Until.TheVariants.{Feed}
 use Rattle.reader.specs.Runs.{run}
 use Rattle.reader.specs.Turns.{HeaderRead}

@@ -1,4 +1,4 @@
-use Rattle.std.proofs.Common.{◌≡◌, ◌+◌, ◌-◌, ◌<◌, ◌∷◌, length, take, drop, sym, ap, ◌∙◌, subst, arith}
+use Rattle.std.proofs.Common.{◌≡◌, ◌-◌, ◌<◌, ◌∷◌, length, take, drop, sym, ◌∙◌, arith}
 use Rattle.reader.specs.declared.cursor.Mode.TheVariants.{Within}
 use Rattle.reader.specs.declared.cursor.Until.TheVariants.{Blank}
 use Rattle.reader.specs.Runs.{run}

@@ -1,6 +1,5 @@
-use Rattle.std.proofs.Common.{◌≡◌, sym, ◌∙◌, subst}
-use Rattle.reader.specs.Tokens.{skips}
-use Rattle.reader.proofs.Walks.{Skipped, skipped_none, skipped_more}
+use Rattle.std.proofs.Common.{sym, subst}
+use Rattle.reader.proofs.Walks.{Skipped, skipped_more}
 use Rattle.reader.proofs.words.Reader.skip_gap.Goals as goal
 
 pub loop-self-preserved : goal.loop-self-preserved

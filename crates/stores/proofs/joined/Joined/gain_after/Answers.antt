@@ -1,4 +1,4 @@
-use Rattle.std.proofs.Common.{◌≡◌, true, false, sym, refl, ap, ◌∙◌, arith}
+use Rattle.std.proofs.Common.{true, false, refl, arith}
 use Rattle.stores.proofs.Walks.{gain_small, gain_end}
 use Rattle.stores.proofs.Joining.{gain_both}
 use Rattle.stores.proofs.joined.Joined.gain_after.Goals as goal

@@ -1,4 +1,4 @@
-use Rattle.std.proofs.Common.{◌≡◌, true, false, sym, refl, ap, ◌∙◌}
+use Rattle.std.proofs.Common.{true, false, sym, refl, ap, ◌∙◌}
 use Rattle.stores.specs.Walks.{found, lowest_of}
 use Rattle.stores.proofs.Walks.{found_end}
 use Rattle.stores.proofs.Joining.{or_else, found_both}

@@ -1,4 +1,4 @@
-use Rattle.std.proofs.Common.{◌≡◌, true, false, ◌&&◌, sym, refl, ap, ◌∙◌}
+use Rattle.std.proofs.Common.{true, false, ◌&&◌, sym, refl, ap, ◌∙◌}
 use Rattle.stores.specs.Walks.{settled_from, all_settled}
 use Rattle.stores.proofs.Walks.{settled_end}
 use Rattle.stores.proofs.Joining.{settled_both}

@@ -1,4 +1,4 @@
-use Rattle.std.proofs.Common.{◌≡◌, cond, ◌&&◌, refl, ap, ◌∙◌}
+use Rattle.std.proofs.Common.{cond, ◌&&◌, refl, ap, ◌∙◌}
 use Rattle.stores.specs.Walks.{settled_from}
 use Rattle.stores.specs.Joins.{joinable}
 use Rattle.stores.proofs.Joining.{settled_both}

@@ -1,4 +1,4 @@
-use Rattle.std.proofs.Common.{◌≡◌, ℕ, suc, ◌+◌, ◌-◌, ◌<◌, sym, refl, ap, ◌∙◌, arith}
+use Rattle.std.proofs.Common.{suc, ◌-◌, ◌<◌, sym, ◌∙◌, arith}
 use Rattle.stores.specs.declared.look.Look.TheVariants.{Settled, Broken, Forces, Open}
 use Rattle.stores.proofs.Walks.{settled_more, settled_end}
 use Rattle.stores.proofs.store.Rules.all_settled.Goals as goal

@@ -1,4 +1,4 @@
-use Rattle.std.proofs.Common.{◌≡◌, ℕ, suc, ◌+◌, ◌-◌, ◌<◌, sym, refl, ap, ◌∙◌, arith}
+use Rattle.std.proofs.Common.{suc, ◌-◌, ◌<◌, arith}
 use Rattle.stores.proofs.Walks.{gain_more, gain_end}
 use Rattle.stores.proofs.store.Rules.gain.Goals as goal
 

@@ -1,14 +1,10 @@
-use Rattle.std.proofs.Common.{◌≡◌, sym, refl, ap, ◌∙◌, subst}
-use mathlib.Core.Option.{none}
-use Rattle.stores.specs.Stores.{Store}
+use Rattle.std.proofs.Common.{sym, ap, ◌∙◌, subst}
 use Rattle.stores.specs.Joins.{joins, join_fault}
-use Rattle.meaning.specs.declared.Kind.{Kind}
 use Rattle.meaning.specs.declared.Kind.TheVariants.{Clause, Odd}
 use Rattle.meaning.specs.Listed.{listed}
 use Rattle.meaning.specs.Tables.{parts}
 use Rattle.meaning.specs.Spelt.{MeansRules}
 use Rattle.meaning.proofs.Spelt.{both_open, filled_mean}
-use Rattle.tables.specs.declared.table.Table.{Table}
 use Rattle.tables.specs.Laws.{table_store}
 use Rattle.tables.proofs.Opened.{opened_store}
 use Rattle.tables.proofs.both.Tables.open.Goals as goal

@@ -1,4 +1,4 @@
-use Rattle.std.proofs.Common.{◌≡◌, ◌<◌, ◌&&◌, length, drop, sym, refl, ap, ◌∙◌, arith}
+use Rattle.std.proofs.Common.{◌<◌, ◌&&◌, length, drop, sym, refl, ap, ◌∙◌, arith}
 use Rattle.meaning.specs.Tables.{parts}
 use Rattle.tables.proofs.Rows.{walk_starts, walk_on, walk_parts, ready, parts_none}
 use Rattle.tables.proofs.Lists.{settled_all, settled_step, settled_in}

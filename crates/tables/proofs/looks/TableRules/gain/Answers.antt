@@ -1,4 +1,4 @@
-use Rattle.std.proofs.Common.{◌≡◌, ◌<◌, length, drop, sym, refl, ap, ◌∙◌, arith}
+use Rattle.std.proofs.Common.{◌<◌, length, refl, ap, arith}
 use Rattle.meaning.specs.Tables.{parts}
 use Rattle.meaning.proofs.Tables.{opened_rules}
 use Rattle.tables.proofs.Rows.{walk_starts, walk_on, walk_parts, ready, parts_none}

@@ -1,4 +1,4 @@
-use Rattle.std.proofs.Common.{◌≡◌, ◌<◌, length, drop, sym, refl, ap, ◌∙◌, arith}
+use Rattle.std.proofs.Common.{◌<◌, length, sym, refl, ap, ◌∙◌, arith}
 use Rattle.meaning.specs.Tables.{parts}
 use Rattle.tables.proofs.Rows.{walk_starts, walk_on, walk_parts, ready, parts_none}
 use Rattle.tables.proofs.Lists.{found_all, found_step, found_hit, found_miss, found_in}

@@ -1,4 +1,4 @@
-use Rattle.std.proofs.Common.{◌≡◌, ap, ◌∙◌, arith}
+use Rattle.std.proofs.Common.{ap, ◌∙◌}
 use Rattle.meaning.specs.Listed.{look_at}
 use Rattle.tables.proofs.Rows.{ready}
 use Rattle.tables.proofs.Places.{placed}

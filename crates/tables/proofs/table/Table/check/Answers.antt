@@ -1,4 +1,4 @@
-use Rattle.std.proofs.Common.{◌≡◌, cond, ap, ◌∙◌}
+use Rattle.std.proofs.Common.{cond, ap, ◌∙◌}
 use mathlib.Core.Option.{some}
 use Rattle.meaning.specs.Tables.{rule_fault}
 use Rattle.meaning.proofs.Faults.{faults_mean}

@@ -1,4 +1,4 @@
-use Rattle.std.proofs.Common.{◌≡◌, sym, ap, ◌∙◌}
+use Rattle.std.proofs.Common.{sym, ap, ◌∙◌}
 use Rattle.meaning.specs.Tables.{is_none}
 use Rattle.meaning.proofs.Tables.{opened_count}
 use Rattle.tables.proofs.table.Table.open.Goals as goal

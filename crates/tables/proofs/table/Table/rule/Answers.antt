@@ -1,4 +1,4 @@
-use Rattle.std.proofs.Common.{◌≡◌, ◌+◌, ◌*◌, ◌≤◌, sym, ap, ◌∙◌, subst}
+use Rattle.std.proofs.Common.{◌+◌, ◌*◌, ◌≤◌, sym, ap, ◌∙◌, subst}
 use Rattle.tables.proofs.Rows.{walk_has}
 use Rattle.tables.proofs.Places.{rule_from, placed}
 use Rattle.tables.proofs.table.Table.rule.Goals as goal

@@ -1,7 +1,7 @@
 use Rattle.std.proofs.Common.{◌≡◌, refl, ap, ◌∙◌, arith}
 use Rattle.meaning.specs.Tables.{parts, start_of}
 use Rattle.tables.proofs.Rows.{walk_has}
-use Rattle.tables.proofs.Places.{Placed, placed}
+use Rattle.tables.proofs.Places.{placed}
 use Rattle.tables.proofs.table.Table.start.Goals as goal
 
 pub loop-k-init : goal.loop-k-init

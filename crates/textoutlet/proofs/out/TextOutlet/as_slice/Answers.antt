@@ -1,4 +1,4 @@
-use Rattle.std.proofs.Common.{◌≡◌, sym, ◌∙◌}
+use Rattle.std.proofs.Common.{sym, ◌∙◌}
 use Rattle.lines.proofs.Told.{text_told}
 use Rattle.textoutlet.proofs.out.TextOutlet.as_slice.Goals as goal
 
