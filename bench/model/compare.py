@@ -1,6 +1,6 @@
 """Runs `split` on generated inputs, well formed and damaged, and compares it with the model.
 
-    python3 bench/model/compare.py target/bin/split SEED COUNT
+    python3 bench/model/compare.py crates/split/out/split SEED COUNT
 """
 
 import collections

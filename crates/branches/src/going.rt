@@ -4,8 +4,8 @@ ghost use Rattle.rules.specs.Literals.{free};
 ghost use Rattle.stack.specs.Items.{items, spares, sound, size as type_size};
 ghost use Rattle.lookahead.specs.Answers.{news};
 ghost use Rattle.account.specs.Piles.{Fit, back};
-ghost use Rattle.branches.specs.Spelled.{newest_first, place_by, unsearched as unsearched-of};
-ghost use Rattle.branches.specs.Laying.{opposite as opposite-of};
+ghost use Rattle.branches.specs.Spelled.{newest_first, place_by, unsearched as unsearched_of};
+ghost use Rattle.branches.specs.Laying.{opposite as opposite_of};
 
 use crate::sides::opposite;
 use lookahead::write_news;
@@ -61,7 +61,7 @@ pub fn push_decision(
 
 // Goes on to the second side of a record that was taken off.
 fn turn_over(trail: &mut Stack<i32>, records: &mut Stack<Record>, r: Record)
-    ensures trail { sound trail.old → r.height < length (items trail.old) → items trail.new ≡ take r.height (items trail.old) ++ (opposite-of r.decision ∷ []) }
+    ensures trail { sound trail.old → r.height < length (items trail.old) → items trail.new ≡ take r.height (items trail.old) ++ (opposite_of r.decision ∷ []) }
     ensures records { records.old.len < type_size records.old → items records.new ≡ items records.old ++ (record { decision = r.decision; height = r.height; second = true } ∷ []) }
     ensures whole { sound trail.old → sound records.old → sound trail.new × sound records.new }
     ensures places { (type_size trail.new ≡ type_size trail.old) × (type_size records.new ≡ type_size records.old) }
@@ -99,7 +99,7 @@ fn waits(r: Record) -> usize
 
 // How many second sides have still to be searched.
 pub fn unsearched(records: &[Record]) -> usize
-    ensures { result ≡ unsearched-of records.now }
+    ensures { result ≡ unsearched_of records.now }
 {
     let mut n = 0;
     for r in records {

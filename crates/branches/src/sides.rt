@@ -1,19 +1,19 @@
 // The literals of a record: the side being searched, and what it adds to an entry.
 ghost use Rattle.std.specs.Prelude.{◌≡◌};
-ghost use Rattle.branches.specs.Laying.{opposite as opposite-of, searched as searched-of, written as written_of_lem};
+ghost use Rattle.branches.specs.Laying.{opposite as opposite_of, searched as searched_of, written as written_of_lem};
 
 use outlet::Kind;
 use stack::Record;
 
 // The negation; the lowest number has none and stays.
 pub fn opposite(literal: i32) -> i32
-    ensures { result ≡ opposite-of literal }
+    ensures { result ≡ opposite_of literal }
 {
     literal.wrapping_neg()
 }
 
 pub fn searched(r: Record) -> i32
-    ensures { result ≡ searched-of r }
+    ensures { result ≡ searched_of r }
 {
     if r.second {
         opposite(r.decision)

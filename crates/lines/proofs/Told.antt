@@ -1,7 +1,7 @@
 -- The entries can be told back from their text: no two lists of entries have the same lines.
 use Rattle.std.proofs.Common.{◌≡◌, ℕ, suc, ◌+◌, ◌%◌, ◌^◌, ◌<◌, ◌≤◌, List, [], ◌∷◌, ◌++◌, length, ℤ, pos, negsuc, decimal, sym, refl, ap, ◌∙◌, subst, append_assoc, arith}
 use Rattle.std.specs.Fmt.{signed_decimal}
-use Rattle.std.specs.List.{AllByRecursion as All}
+use Rattle.std.specs.List.{AllByRecursion}
 use Rattle.std.proofs.lemmas.Fmt.{decimal_by_steps, decimal_nonempty, signed_decimal_injective}
 use Rattle.std.proofs.ByRecursion.{All-push}
 use Rattle.std.proofs.lemmas.List.{append_cancel_left}
@@ -18,10 +18,10 @@ abbrev Stops : List ℕ → Type 0
 Stops [] = ⊥
 Stops (b ∷ bs) = b ≤ 32
 
-big_decimal : (n : ℕ) → n < 2 ^ 64 → All Big (decimal n)
-big_decimal n h = decimal_by_steps (λ m ds. All Big ds) (λ m k. (omega arith, tt)) (λ m ds k p. All-push Big ds (48 + m % 10) p (omega arith)) n h
+big_decimal : (n : ℕ) → n < 2 ^ 64 → AllByRecursion Big (decimal n)
+big_decimal n h = decimal_by_steps (λ m ds. AllByRecursion Big ds) (λ m k. (omega arith, tt)) (λ m ds k p. All-push Big ds (48 + m % 10) p (omega arith)) n h
 
-big_signed : (z : ℤ) → Narrow z → All Big (signed_decimal z)
+big_signed : (z : ℤ) → Narrow z → AllByRecursion Big (signed_decimal z)
 big_signed (pos n) h = big_decimal n (omega arith)
 big_signed (negsuc n) h = (omega arith, big_decimal (suc n) (omega arith))
 
@@ -30,7 +30,7 @@ some_signed (pos n) h e = let s = decimal_nonempty n (omega arith) in omega (ari
 some_signed (negsuc n) h e = let z : ◌≡◌ {A = ℕ} 0 1 = cc in omega arith
 
 -- two numbers, each before a byte that ends it
-split : (xs ys us vs : List ℕ) → All Big xs → All Big ys → Stops us → Stops vs → xs ++ us ≡ ys ++ vs → (xs ≡ ys) × (us ≡ vs)
+split : (xs ys us vs : List ℕ) → AllByRecursion Big xs → AllByRecursion Big ys → Stops us → Stops vs → xs ++ us ≡ ys ++ vs → (xs ≡ ys) × (us ≡ vs)
 split [] [] us vs p q s t e = (refl, e)
 split [] (y ∷ ys) us vs p q s t e = let h : y ≤ 32 = subst Stops e s in absurd (omega (arith, q.0))
 split (x ∷ xs) [] us vs p q s t e = let h : x ≤ 32 = subst Stops (sym e) t in absurd (omega (arith, p.0))
@@ -48,7 +48,7 @@ same_signed : (y z : ℤ) → Narrow y → Narrow z → signed_decimal y ≡ sig
 same_signed y z p q e = signed_decimal_injective y z (omega arith) (omega arith) e
 
 -- literals after spaces, up to the line feed
-spaced_told : (ls ks : List ℤ) (us vs : List ℕ) → All Narrow ls → All Narrow ks → spaced ls ++ 10 ∷ us ≡ spaced ks ++ 10 ∷ vs → (ls ≡ ks) × (us ≡ vs)
+spaced_told : (ls ks : List ℤ) (us vs : List ℕ) → AllByRecursion Narrow ls → AllByRecursion Narrow ks → spaced ls ++ 10 ∷ us ≡ spaced ks ++ 10 ∷ vs → (ls ≡ ks) × (us ≡ vs)
 spaced_told [] [] us vs p q e = (refl, cc)
 spaced_told [] (k ∷ ks) us vs p q e = absurd (let z : ◌≡◌ {A = ℕ} 10 32 = cc in omega arith)
 spaced_told (l ∷ ls) [] us vs p q e = absurd (let z : ◌≡◌ {A = ℕ} 32 10 = cc in omega arith)
@@ -61,7 +61,7 @@ spaced_told (l ∷ ls) (k ∷ ks) us vs p q e =
     (ap (λ z. z ∷ ls) (same_signed l k p.0 q.0 r.0) ∙ ap (λ m. k ∷ m) t.0, t.1)
 
 -- literals parted by spaces, up to the line feed
-parted_told : (ls ks : List ℤ) (us vs : List ℕ) → All Narrow ls → All Narrow ks → parted ls ++ 10 ∷ us ≡ parted ks ++ 10 ∷ vs → (ls ≡ ks) × (us ≡ vs)
+parted_told : (ls ks : List ℤ) (us vs : List ℕ) → AllByRecursion Narrow ls → AllByRecursion Narrow ks → parted ls ++ 10 ∷ us ≡ parted ks ++ 10 ∷ vs → (ls ≡ ks) × (us ≡ vs)
 parted_told [] [] us vs p q e = (refl, cc)
 parted_told [] (k ∷ ks) us vs p q e =
     let g : 10 ∷ us ≡ signed_decimal k ++ (spaced ks ++ 10 ∷ vs) = e ∙ append_assoc (signed_decimal k) (spaced ks) (10 ∷ vs) in
@@ -83,7 +83,7 @@ line_opened : (k : Kind) (n : ℕ) (ls : List ℤ) (us : List ℕ) → line k n 
 line_opened k n ls us = ap (λ t. letter k ∷ 44 ∷ t)
     (append_assoc (decimal n) (44 ∷ (parted ls ++ 10 ∷ [])) us ∙ ap (λ t. decimal n ++ (44 ∷ t)) (append_assoc (parted ls) (10 ∷ []) us))
 
-line_told : (k : Kind) (n : ℕ) (ls ks : List ℤ) (us vs : List ℕ) → All Narrow ls → All Narrow ks → line k n ls ++ us ≡ line k n ks ++ vs → (ls ≡ ks) × (us ≡ vs)
+line_told : (k : Kind) (n : ℕ) (ls ks : List ℤ) (us vs : List ℕ) → AllByRecursion Narrow ls → AllByRecursion Narrow ks → line k n ls ++ us ≡ line k n ks ++ vs → (ls ≡ ks) × (us ≡ vs)
 line_told k n ls ks us vs p q e =
     let f : letter k ∷ 44 ∷ (decimal n ++ (44 ∷ (parted ls ++ 10 ∷ us))) ≡ letter k ∷ 44 ∷ (decimal n ++ (44 ∷ (parted ks ++ 10 ∷ vs))) =
     sym (line_opened k n ls us) ∙ e ∙ line_opened k n ks vs in
@@ -91,7 +91,7 @@ line_told k n ls ks us vs p q e =
     let h = append_cancel_left (44 ∷ []) (parted ls ++ 10 ∷ us) (parted ks ++ 10 ∷ vs) g in
     parted_told ls ks us vs p q h
 
-lines_told : (c l : ℕ) (es fs : List Entry) → All NarrowEntry es → All NarrowEntry fs → lines c l es ≡ lines c l fs → es ≡ fs
+lines_told : (c l : ℕ) (es fs : List Entry) → AllByRecursion NarrowEntry es → AllByRecursion NarrowEntry fs → lines c l es ≡ lines c l fs → es ≡ fs
 lines_told c l [] [] p q e = refl
 lines_told c l [] (cube ks ∷ fs) p q e = absurd (let z : ◌≡◌ {A = ℕ} 0 1 = cc in omega arith)
 lines_told c l [] (learnt ks ∷ fs) p q e = absurd (let z : ◌≡◌ {A = ℕ} 0 1 = cc in omega arith)
@@ -106,5 +106,5 @@ lines_told c l (learnt ls ∷ es) (learnt ks ∷ fs) p q e =
     let r = line_told Learnt (l + 1) ls ks (lines c (l + 1) es) (lines c (l + 1) fs) p.0 q.0 e in
     ap (λ m. learnt m ∷ es) r.0 ∙ ap (λ gs. learnt ks ∷ gs) (lines_told c (l + 1) es fs p.1 q.1 r.1)
 
-pub text_told : (es fs : List Entry) → All NarrowEntry es → All NarrowEntry fs → text es ≡ text fs → es ≡ fs
+pub text_told : (es fs : List Entry) → AllByRecursion NarrowEntry es → AllByRecursion NarrowEntry fs → text es ≡ text fs → es ≡ fs
 text_told es fs p q e = lines_told 0 0 es fs p q e

@@ -2,7 +2,7 @@
 use Rattle.std.specs.Prelude.{ℕ, ◌+◌, ◌^◌, ◌<◌, List, [], ◌∷◌, ◌++◌, ℤ, decimal}
 use Rattle.std.specs.Int.Signed.{mag}
 use Rattle.std.specs.Fmt.{signed_decimal}
-use Rattle.std.specs.List.{AllByRecursion as All}
+use Rattle.std.specs.List.{AllByRecursion}
 use Rattle.outlet.specs.declared.kinds.Kind.{Kind}
 use Rattle.outlet.specs.declared.kinds.Kind.TheVariants.{Cube, Learnt}
 use Rattle.outlet.specs.Entries.{Entry, cube, learnt, literals}
@@ -55,4 +55,4 @@ abbrev pub Narrow : ℤ → Type 0
 Narrow l = mag l < 2 ^ 31
 
 abbrev pub NarrowEntry : Entry → Type 0
-NarrowEntry e = All Narrow (literals e)
+NarrowEntry e = AllByRecursion Narrow (literals e)

@@ -1,7 +1,7 @@
 // Each function writes its piece from a place on and answers the place behind it.
 ghost use Rattle.std.specs.Prelude.{◌≡◌, ℕ, ◌+◌, ◌<◌, ◌≤◌, List, [], ◌∷◌, ◌++◌, length, decimal};
 ghost use Rattle.std.specs.Fmt.{signed_decimal};
-ghost use Rattle.std.specs.List.{AllByRecursion as All};
+ghost use Rattle.std.specs.List.{AllByRecursion};
 ghost use Rattle.outlet.specs.Memory.{laid};
 ghost use Rattle.lines.specs.Lines.{spaced, parted, line, letter, Narrow};
 
@@ -46,7 +46,7 @@ fn put_spaced(bytes: &mut [u8], at: usize, lits: &[i32]) -> usize
     requires { at + length (spaced lits.now) ≤ length bytes.old }
     ensures end { result ≡ at + length (spaced lits.now) }
     ensures memory { bytes.new ≡ laid bytes.old at (spaced lits.now) }
-    ensures narrow { All Narrow lits.now }
+    ensures narrow { AllByRecursion Narrow lits.now }
 {
     let mut k = at;
     for l in lits {
@@ -60,7 +60,7 @@ fn put_parted(bytes: &mut [u8], at: usize, lits: &[i32]) -> usize
     requires { at + length (parted lits.now) ≤ length bytes.old }
     ensures end { result ≡ at + length (parted lits.now) }
     ensures memory { bytes.new ≡ laid bytes.old at (parted lits.now) }
-    ensures narrow { All Narrow lits.now }
+    ensures narrow { AllByRecursion Narrow lits.now }
 {
     match lits {
         [] => at,
@@ -84,7 +84,7 @@ pub fn put_line(bytes: &mut [u8], at: usize, kind: Kind, n: u64, lits: &[i32]) -
     requires { at + length (line kind n lits.now) ≤ length bytes.old }
     ensures end { result ≡ at + length (line kind n lits.now) }
     ensures memory { bytes.new ≡ laid bytes.old at (line kind n lits.now) }
-    ensures narrow { All Narrow lits.now }
+    ensures narrow { AllByRecursion Narrow lits.now }
 {
     let a = put_byte(bytes, at, letter_of(kind));
     let b = put_byte(bytes, a, b',');

@@ -3,7 +3,7 @@ ghost use Rattle.std.specs.Prelude.{◌≡◌, ℕ, ◌+◌, ◌≤◌, true, Li
 ghost use Rattle.outlet.specs.declared.kinds.Kind.{Kind as TheKind};
 ghost use Rattle.outlet.specs.Entries.{Entry, entry_of};
 ghost use Rattle.outlet.specs.Memory.{laid};
-ghost use Rattle.outlet.specs.Numbers.{numbers as Numbers-of, kind_number, room_for, numbers_fit, HoldsNumbers, KeepsNumbers};
+ghost use Rattle.outlet.specs.Numbers.{numbers as numbers_of, kind_number, room_for, numbers_fit, HoldsNumbers, KeepsNumbers};
 ghost use Rattle.outlet.specs.NumberLaws.{number_laws};
 
 use crate::Outlet;
@@ -55,7 +55,7 @@ impl<'a> NumberOutlet<'a> {
     // The written part.
     pub fn as_slice(&self) -> &[i32]
         ensures value { result.now ≡ take self.now.used self.now.cells.now }
-        ensures means { (es : List Entry) → HoldsNumbers self.now es → result.now ≡ Numbers-of es }
+        ensures means { (es : List Entry) → HoldsNumbers self.now es → result.now ≡ numbers_of es }
     {
         if self.used <= self.cells.len() {
             &self.cells[0..self.used]

@@ -1,7 +1,7 @@
 // A text read into two tables, and the tables opened as stores.
 ghost use Rattle.std.specs.Prelude.{◌≡◌, ℕ, ◌≤◌, List, length, take, IfOk};
 ghost use Rattle.std.proofs.Math.Option.{none};
-ghost use Rattle.rules.specs.Rules.{clauses as clause-rules, odds as odd-rules};
+ghost use Rattle.rules.specs.Rules.{clauses as clause_rules, odds as odd_rules};
 ghost use Rattle.reader.specs.Reading.{parse, answer, filled};
 ghost use Rattle.reader.specs.Theorem.{ReadAs};
 ghost use Rattle.stores.specs.Joins.{joins, join_fault};
@@ -15,8 +15,8 @@ use tables::Tables;
 // The reader's call, with what it means for opening.
 fn read_tables(text: &[u8], clauses: &mut [i32], odds: &mut [i32]) -> Result<Counts, Fault>
     ensures answer { result ≡ answer (length text.now) (length clauses.old) (length odds.old) (parse text.now) }
-    ensures clauses { clauses.new ≡ filled clause-rules (length clauses.old) (length odds.old) clauses.old (parse text.now) }
-    ensures odds { odds.new ≡ filled odd-rules (length clauses.old) (length odds.old) odds.old (parse text.now) }
+    ensures clauses { clauses.new ≡ filled clause_rules (length clauses.old) (length odds.old) clauses.old (parse text.now) }
+    ensures odds { odds.new ≡ filled odd_rules (length clauses.old) (length odds.old) odds.old (parse text.now) }
     ensures spelled { ReadAs text.now clauses.old clauses.new odds.old odds.new result }
     ensures from { IfOk result (λ k. Read_from text.now k clauses.new odds.new) }
     ensures opens { IfOk result (λ k. used_fault k clauses.new odds.new ≡ none) }
@@ -27,8 +27,8 @@ fn read_tables(text: &[u8], clauses: &mut [i32], odds: &mut [i32]) -> Result<Cou
 // Reads a text into the two tables, as the reader does. What it accepts opens without refusal.
 pub fn read(text: &[u8], clauses: &mut [i32], odds: &mut [i32]) -> Result<Counts, Fault>
     ensures answer { result ≡ answer (length text.now) (length clauses.old) (length odds.old) (parse text.now) }
-    ensures clauses { clauses.new ≡ filled clause-rules (length clauses.old) (length odds.old) clauses.old (parse text.now) }
-    ensures odds { odds.new ≡ filled odd-rules (length clauses.old) (length odds.old) odds.old (parse text.now) }
+    ensures clauses { clauses.new ≡ filled clause_rules (length clauses.old) (length odds.old) clauses.old (parse text.now) }
+    ensures odds { odds.new ≡ filled odd_rules (length clauses.old) (length odds.old) odds.old (parse text.now) }
     ensures spelled { ReadAs text.now clauses.old clauses.new odds.old odds.new result }
     ensures from { IfOk result (λ k. Read_from text.now k clauses.new odds.new) }
     ensures opens { IfOk result (λ k. used_fault k clauses.new odds.new ≡ none) }

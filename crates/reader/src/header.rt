@@ -3,7 +3,7 @@ ghost use Rattle.std.specs.Prelude.{◌≡◌, ◌≤◌, [], IfOk, Some, codes}
 ghost use Rattle.std.specs.Str.{bytes_eq};
 ghost use Rattle.reader.specs.Lines.{words, comment};
 ghost use Rattle.reader.specs.Runs.{led};
-ghost use Rattle.reader.specs.Reading.{head_of, is_silent, limited as limited-head};
+ghost use Rattle.reader.specs.Reading.{head_of, is_silent, limited as limited_head};
 ghost use Rattle.reader.specs.Heads.{header_result};
 
 use crate::cursor::{Until, run_end};
@@ -42,7 +42,7 @@ pub fn is_skipped(line: &[u8]) -> bool
 
 // A header within the limits.
 fn limited(variables: u32, rules: u32, place: usize) -> Result<Header, Fault>
-    ensures value { result ≡ header_result place (limited-head (Some variables) (Some rules)) }
+    ensures value { result ≡ header_result place (limited_head (Some variables) (Some rules)) }
     ensures few { IfOk result (λ h. h.variables ≤ 2048) }
 {
     if variables > 2048 || rules > 16384 {

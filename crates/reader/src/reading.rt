@@ -1,6 +1,6 @@
 // A rule file, read whole into two tables or refused.
 ghost use Rattle.std.specs.Prelude.{◌≡◌, ℕ, ◌≤◌, true, List, length};
-ghost use Rattle.rules.specs.Rules.{clauses as clause-rules, odds as odd-rules};
+ghost use Rattle.rules.specs.Rules.{clauses as clause_rules, odds as odd_rules};
 ghost use Rattle.reader.specs.Reading.{parse, answer, filled};
 ghost use Rattle.reader.specs.Theorem.{ReadAs};
 ghost use Rattle.reader.specs.Turns.{Planned};
@@ -33,8 +33,8 @@ fn answer_with(plan: Plan, c: usize, o: usize, end: usize) -> Result<Counts, Fau
 // Fills both tables, if they have room for the rules.
 fn fill_by(text: &[u8], plan: Plan, clauses: &mut [i32], odds: &mut [i32])
     requires { Planned text.now plan }
-    ensures clauses { clauses.new ≡ filled clause-rules (length clauses.old) (length odds.old) clauses.old (parse text.now) }
-    ensures odds { odds.new ≡ filled odd-rules (length clauses.old) (length odds.old) odds.old (parse text.now) }
+    ensures clauses { clauses.new ≡ filled clause_rules (length clauses.old) (length odds.old) clauses.old (parse text.now) }
+    ensures odds { odds.new ≡ filled odd_rules (length clauses.old) (length odds.old) odds.old (parse text.now) }
 {
     if plan.tally.clause_numbers > clauses.len() || plan.tally.odd_numbers > odds.len() {
         return;
@@ -47,8 +47,8 @@ fn fill_by(text: &[u8], plan: Plan, clauses: &mut [i32], odds: &mut [i32])
 // where it is refused, both tables are as before.
 pub fn read(text: &[u8], clauses: &mut [i32], odds: &mut [i32]) -> Result<Counts, Fault>
     ensures answer { result ≡ answer (length text.now) (length clauses.old) (length odds.old) (parse text.now) }
-    ensures clauses { clauses.new ≡ filled clause-rules (length clauses.old) (length odds.old) clauses.old (parse text.now) }
-    ensures odds { odds.new ≡ filled odd-rules (length clauses.old) (length odds.old) odds.old (parse text.now) }
+    ensures clauses { clauses.new ≡ filled clause_rules (length clauses.old) (length odds.old) clauses.old (parse text.now) }
+    ensures odds { odds.new ≡ filled odd_rules (length clauses.old) (length odds.old) odds.old (parse text.now) }
     ensures spelled { ReadAs text.now clauses.old clauses.new odds.old odds.new result }
 {
     let plan = check(text)?;

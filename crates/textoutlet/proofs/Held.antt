@@ -1,6 +1,6 @@
 -- The text with one more entry.
 use Rattle.std.proofs.Common.{◌≡◌, ℕ, ◌+◌, ◌-◌, ◌*◌, ◌^◌, ◌<◌, ◌≤◌, true, ltb, leb, List, [], ◌∷◌, ◌++◌, length, ℤ, sym, refl, ap, ◌∙◌, append_assoc, arith, length-append, length-take}
-use Rattle.std.specs.List.{AllByRecursion as All}
+use Rattle.std.specs.List.{AllByRecursion}
 use Rattle.std.proofs.ByRecursion.{All-push}
 use Rattle.std.proofs.lemmas.List.{append-nil}
 use Rattle.std.proofs.lemmas.Bool.{lt-ltb}
@@ -35,7 +35,7 @@ learnt_push [] Learnt ls = refl
 learnt_push (cube ms ∷ es) k ls = learnt_push es k ls
 learnt_push (learnt ms ∷ es) k ls = ap (λ n. n + 1) (learnt_push es k ls) ∙ omega arith
 
-pub narrow_push : (es : List Entry) (k : Kind) (ls : List ℤ) → All NarrowEntry es → All Narrow ls → All NarrowEntry (es ++ entry_of k ls ∷ [])
+pub narrow_push : (es : List Entry) (k : Kind) (ls : List ℤ) → AllByRecursion NarrowEntry es → AllByRecursion Narrow ls → AllByRecursion NarrowEntry (es ++ entry_of k ls ∷ [])
 narrow_push es Cube ls a n = All-push NarrowEntry es (cube ls) a n
 narrow_push es Learnt ls a n = All-push NarrowEntry es (learnt ls) a n
 

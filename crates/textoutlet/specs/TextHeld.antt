@@ -1,6 +1,6 @@
 -- What a text outlet means.
 use Rattle.std.specs.Prelude.{◌≡◌, ℕ, ◌+◌, ◌-◌, ◌^◌, ◌≤◌, Bool, ◌&&◌, List, [], ◌∷◌, ◌++◌, length, take, ℤ, nat_le, nat_lt}
-use Rattle.std.specs.List.{AllByRecursion as All}
+use Rattle.std.specs.List.{AllByRecursion}
 use Rattle.outlet.specs.declared.kinds.Kind.{Kind}
 use Rattle.outlet.specs.Entries.{Entry}
 use Rattle.outlet.specs.Memory.{Grew}
@@ -13,7 +13,7 @@ pub record HoldsText (o : TextOutlet) (es : List Entry) : Type 0 where
   pub held : take o.used o.bytes.now ≡ text es
   pub cubes : o.cubes ≡ cubes_in es
   pub learnt : o.learnt ≡ learnt_in es
-  pub narrow : All NarrowEntry es
+  pub narrow : AllByRecursion NarrowEntry es
 
 -- an entry fits if the text with its line is within the memory
 abbrev pub text_fit : ℕ → List Entry → Entry → Bool

@@ -1,6 +1,6 @@
 // Entries as lines in lent bytes: letter, number within the kind, literals.
 ghost use Rattle.std.specs.Prelude.{◌≡◌, ℕ, ◌+◌, ◌-◌, ◌^◌, ◌<◌, true, List, [], ◌∷◌, ◌++◌, length, take};
-ghost use Rattle.std.specs.List.{AllByRecursion as All};
+ghost use Rattle.std.specs.List.{AllByRecursion};
 ghost use Rattle.outlet.specs.Entries.{Entry, entry_of};
 ghost use Rattle.lines.specs.Lines.{text, of_kind, NarrowEntry};
 ghost use Rattle.textoutlet.specs.TextHeld.{HoldsText, KeepsText, room_for, text_fit};
@@ -59,7 +59,7 @@ impl<'a> TextOutlet<'a> {
     pub fn as_slice(&self) -> &[u8]
         ensures value { result.now ≡ take self.now.used self.now.bytes.now }
         ensures means { (es : List Entry) → HoldsText self.now es → result.now ≡ text es }
-        ensures told { (es fs : List Entry) → HoldsText self.now es → All NarrowEntry fs → result.now ≡ text fs → fs ≡ es }
+        ensures told { (es fs : List Entry) → HoldsText self.now es → AllByRecursion NarrowEntry fs → result.now ≡ text fs → fs ≡ es }
     {
         self.written()
     }

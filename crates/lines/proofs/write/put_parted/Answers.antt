@@ -2,7 +2,7 @@ use Rattle.std.proofs.Common.{◌≡◌, ◌-◌, ◌<◌, ◌≤◌, [], length
 use Rattle.std.specs.Fmt.{signed_decimal}
 use Rattle.std.proofs.lemmas.List.{nil_from_length}
 use Rattle.std.proofs.lemmas.Slice.{first_rest}
-use Rattle.std.specs.List.{AllByRecursion as All}
+use Rattle.std.specs.List.{AllByRecursion}
 use Rattle.outlet.specs.Memory.{laid}
 use Rattle.outlet.proofs.Laid.{laid_then, laid_nothing}
 use Rattle.lines.specs.Lines.{spaced, parted, Narrow}
@@ -32,7 +32,7 @@ returns-in-empty c =
     record {
       end = omega (arith, ap length e);
       memory = sym (laid_nothing c.args.bytes.now c.args.at) ∙ ap (laid c.args.bytes.now c.args.at) (sym e);
-      narrow = subst (All Narrow) (sym (nil_from_length ls z)) tt;
+      narrow = subst (AllByRecursion Narrow) (sym (nil_from_length ls z)) tt;
     }
 
 pub returns-in-len1-up : goal.returns-in-len1-up
@@ -49,5 +49,5 @@ returns-in-len1-up c =
       memory = laid_then c.args.bytes.now c.put_signed-k.new.bytes c.put_spaced.new.bytes (signed_decimal (get_or ls 0 (pos 0))) rest
           c.args.at c.put_signed-k.result b q.memory q.end c.put_spaced.ensures.memory
           ∙ ap (laid c.args.bytes.now c.args.at) (sym (parted_split ls h));
-      narrow = subst (All Narrow) (sym (first_rest ls (pos 0) h)) (w.sfits, c.put_spaced.ensures.narrow);
+      narrow = subst (AllByRecursion Narrow) (sym (first_rest ls (pos 0) h)) (w.sfits, c.put_spaced.ensures.narrow);
     }

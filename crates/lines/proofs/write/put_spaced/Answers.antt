@@ -2,7 +2,7 @@ use Rattle.std.proofs.Common.{◌≡◌, ◌+◌, ◌≤◌, [], ◌∷◌, leng
 use Rattle.std.specs.Fmt.{signed_decimal}
 use Rattle.std.proofs.lemmas.List.{at_drop_all, take_all}
 use Rattle.std.proofs.ByRecursion.{All-more}
-use Rattle.std.specs.List.{AllByRecursion as All}
+use Rattle.std.specs.List.{AllByRecursion}
 use Rattle.outlet.specs.Memory.{laid}
 use Rattle.outlet.proofs.Laid.{laid_then, laid_nothing}
 use Rattle.lines.specs.Lines.{spaced, Narrow}
@@ -47,5 +47,5 @@ returns c =
     record {
       end = omega (arith, c.loop-l.invariant.0, ap length z);
       memory = sym (laid_nothing c.loop-l.bytes c.loop-l.k) ∙ ap (laid c.loop-l.bytes c.loop-l.k) (sym z) ∙ c.loop-l.invariant.1;
-      narrow = subst (All Narrow) (take_all c.loop-l.l-index c.args.lits.now c.loop-l-test.false) c.loop-l.invariant.2;
+      narrow = subst (AllByRecursion Narrow) (take_all c.loop-l.l-index c.args.lits.now c.loop-l-test.false) c.loop-l.invariant.2;
     }
