@@ -10,7 +10,7 @@ use Rattle.meaning.specs.declared.Kind.{Kind}
 use Rattle.meaning.specs.declared.Kind.TheVariants.{Clause, Odd}
 use Rattle.meaning.specs.Listed.{rule_of, nth_rule, listed}
 use Rattle.stores.specs.Joins.{join_fault}
-use Rattle.meaning.specs.Tables.{parts, ends, open_fault, is_none, HoldsRules}
+use Rattle.meaning.specs.Tables.{parts, ends, open_fault, faultless, HoldsRules}
 use Rattle.meaning.specs.Spelt.{Ruled, joined_rules, MeansRules, Filled, or_fault, together_fault, both_fault}
 use Rattle.meaning.proofs.Tables.{rules_open, ends_numbers, opened_count}
 
@@ -142,8 +142,8 @@ both_open n c o h =
     let a = or_none (open_fault n c) _ h in
     let b = or_none (open_fault n o) _ a.1 in
     let few = ltb-false 16384 (ends c + ends o) (not_beyond (ltb 16384 (ends c + ends o)) b.1) in
-    let x = opened_count n c (ap is_none a.0) in
-    let y = opened_count n o (ap is_none b.0) in (
+    let x = opened_count n c (ap faultless a.0) in
+    let y = opened_count n o (ap faultless b.0) in (
       a.0,
       b.0,
       ap (λ u. cond u none (some (19, 0))) (and_from (eqb n n) _ (eq-eqb n n refl) (le-leb (length (parts c) + length (parts o)) 16384 (omega arith))),

@@ -4,7 +4,7 @@ use mathlib.Core.Option.{Option, none, some}
 use Rattle.std.proofs.lemmas.Bool.{true≢false, eqb-false, ne_eqb, ltb-false, le-ltb, or_parts}
 use Rattle.rules.specs.Literals.{Each, Literal, place}
 use Rattle.rules.specs.Rules.{Apart, Fits, numbers}
-use Rattle.meaning.specs.Tables.{is_end, onto, parts, ends, has_var, fault_from, open_fault, is_none, opens, HoldsRules, OpensRules}
+use Rattle.meaning.specs.Tables.{is_end, onto, parts, ends, has_var, fault_from, open_fault, faultless, opens, HoldsRules, OpensRules}
 
 -- ---- literals
 pub literal_lit : (n : ℕ) (z : ℤ) → Literal n z → is_end z ≡ false
@@ -147,7 +147,7 @@ pub opens_rules : (n : ℕ) (t : List ℤ) → OpensRules n t
 opens_rules n t = record { holds = holds_rules n t; opens = rules_open n t }
 
 -- ---- a table that opens, by its test
-none_from : (o : Option (ℕ × ℕ)) → is_none o ≡ true → o ≡ none
+none_from : (o : Option (ℕ × ℕ)) → faultless o ≡ true → o ≡ none
 none_from none h = refl
 none_from (some x) h = absurd (true≢false (sym h))
 

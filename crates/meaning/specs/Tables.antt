@@ -62,13 +62,13 @@ beyond n t = nat_lt 2048 n || nat_lt 16384 (ends t)
 abbrev pub open_fault : ℕ → List ℤ → Option (ℕ × ℕ)
 open_fault n t = cond (beyond n t) (some (19, 0)) (rule_fault n t)
 
-abbrev pub is_none : Option (ℕ × ℕ) → Bool
-is_none none = true
-is_none (some x) = false
+abbrev pub faultless : Option (ℕ × ℕ) → Bool
+faultless none = true
+faultless (some x) = false
 
 -- whether a table opens
 abbrev pub opens : ℕ → List ℤ → Bool
-opens n t = is_none (open_fault n t)
+opens n t = faultless (open_fault n t)
 
 -- the literals of the rule at the index i that stand before it, where `seen` came before the table
 abbrev pub since : List ℤ → ℕ → List ℤ → List ℤ

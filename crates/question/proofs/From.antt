@@ -16,13 +16,13 @@ use Rattle.meaning.specs.Spelt.{Filled, MeansRules}
 use Rattle.meaning.specs.Tables.{parts}
 use Rattle.meaning.proofs.Spelt.{filled_open, clauses_fit, odds_fit}
 use Rattle.meaning.proofs.Tables.{parts_numbers}
-use Rattle.question.specs.Questions.{Read_from, long_enough, used_fault, MeansText}
+use Rattle.question.specs.Questions.{ReadFrom, long_enough, used_fault, MeansText}
 
 front : (zs cs : List ℤ) (n : ℕ) → n ≡ length zs → take n (laid zs cs) ≡ zs
 front zs cs n e = take_at zs (drop (length zs) cs) n (sym e)
 
 -- what the reader accepted
-accepted_from : (text : List ℕ) (cs cs' os os' : List ℤ) (k : Counts) → Accepted text cs cs' os os' k → Read_from text k cs' os'
+accepted_from : (text : List ℕ) (cs cs' os os' : List ℤ) (k : Counts) → Accepted text cs cs' os os' k → ReadFrom text k cs' os'
 accepted_from text cs cs' os os' k h = record {
   variables = h.variables;
   rules = h.rules;
@@ -32,7 +32,7 @@ accepted_from text cs cs' os os' k h = record {
   odds_are = ap (take k.odd_numbers) h.odds_laid ∙ front (numbers (odds h.rules)) os _ (ap (λ c. c.odd_numbers) h.counted);
 }
 
-pub read_from : (text : List ℕ) (cs cs' os os' : List ℤ) (r : Result Counts Fault) → ReadAs text cs cs' os os' r → IfOk r (λ k. Read_from text k cs' os')
+pub read_from : (text : List ℕ) (cs cs' os os' : List ℤ) (r : Result Counts Fault) → ReadAs text cs cs' os os' r → IfOk r (λ k. ReadFrom text k cs' os')
 read_from text cs cs' os os' (Ok k) h = accepted_from text cs cs' os os' k h
 read_from text cs cs' os os' (Err f) h = tt
 
@@ -42,7 +42,7 @@ fits_in n cs zs e s =
     let le : min n (length cs) ≤ length cs = min-le_right n (length cs) in
     omega (arith, m, le)
 
-module _ {text : List ℕ} {k : Counts} {cs os : List ℤ} (h : Read_from text k cs os) where
+module _ {text : List ℕ} {k : Counts} {cs os : List ℤ} (h : ReadFrom text k cs os) where
   filled : Filled k.variables h.rules (take k.clause_numbers cs) (take k.odd_numbers os)
   filled = record {
     ruled = record {
@@ -83,6 +83,6 @@ module _ {text : List ℕ} {k : Counts} {cs os : List ℤ} (h : Read_from text k
       ap (λ t. length (parts t)) h.odds_are
       ∙ (ap length (parts_numbers h.variables (odds h.rules) (odds_fit h.variables h.rules h.spelled.fit)) ∙ sym (ap (λ c. c.odds) h.counted))
 
-pub made_opens : (text : List ℕ) (cs os : List ℤ) (r : Result Counts Fault) → IfOk r (λ k. Read_from text k cs os) → IfOk r (λ k. used_fault k cs os ≡ none)
+pub made_opens : (text : List ℕ) (cs os : List ℤ) (r : Result Counts Fault) → IfOk r (λ k. ReadFrom text k cs os) → IfOk r (λ k. used_fault k cs os ≡ none)
 made_opens text cs os (Ok k) h = opens h
 made_opens text cs os (Err f) h = tt

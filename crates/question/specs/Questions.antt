@@ -9,7 +9,7 @@ use Rattle.stores.specs.Stores.{Store}
 use Rattle.meaning.specs.Spelt.{MeansRules, both_fault}
 
 -- the used parts of the tables cs and os hold the rules that the text spells
-pub record Read_from (text : List ℕ) (k : Counts) (cs os : List ℤ) : Type 0 where
+pub record ReadFrom (text : List ℕ) (k : Counts) (cs os : List ℤ) : Type 0 where
   pub variables : ℕ
   pub rules : List Rule
   pub spelled : Spells text variables rules

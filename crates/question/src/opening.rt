@@ -6,7 +6,7 @@ ghost use Rattle.reader.specs.Reading.{parse, answer, filled};
 ghost use Rattle.reader.specs.Theorem.{ReadAs};
 ghost use Rattle.stores.specs.Joins.{joins, join_fault};
 ghost use Rattle.tables.specs.Laws.{table_store};
-ghost use Rattle.question.specs.Questions.{used_fault, Read_from, MeansText, CountedBy};
+ghost use Rattle.question.specs.Questions.{used_fault, ReadFrom, MeansText, CountedBy};
 
 use reader::Counts;
 use rules::Fault;
@@ -18,7 +18,7 @@ fn read_tables(text: &[u8], clauses: &mut [i32], odds: &mut [i32]) -> Result<Cou
     ensures clauses { clauses.new ≡ filled clause_rules (length clauses.old) (length odds.old) clauses.old (parse text.now) }
     ensures odds { odds.new ≡ filled odd_rules (length clauses.old) (length odds.old) odds.old (parse text.now) }
     ensures spelled { ReadAs text.now clauses.old clauses.new odds.old odds.new result }
-    ensures from { IfOk result (λ k. Read_from text.now k clauses.new odds.new) }
+    ensures from { IfOk result (λ k. ReadFrom text.now k clauses.new odds.new) }
     ensures opens { IfOk result (λ k. used_fault k clauses.new odds.new ≡ none) }
 {
     reader::read(text, clauses, odds)
@@ -30,7 +30,7 @@ pub fn read(text: &[u8], clauses: &mut [i32], odds: &mut [i32]) -> Result<Counts
     ensures clauses { clauses.new ≡ filled clause_rules (length clauses.old) (length odds.old) clauses.old (parse text.now) }
     ensures odds { odds.new ≡ filled odd_rules (length clauses.old) (length odds.old) odds.old (parse text.now) }
     ensures spelled { ReadAs text.now clauses.old clauses.new odds.old odds.new result }
-    ensures from { IfOk result (λ k. Read_from text.now k clauses.new odds.new) }
+    ensures from { IfOk result (λ k. ReadFrom text.now k clauses.new odds.new) }
     ensures opens { IfOk result (λ k. used_fault k clauses.new odds.new ≡ none) }
 {
     read_tables(text, clauses, odds)
@@ -49,8 +49,8 @@ fn used<'a>(table: &'a [i32], count: usize) -> &'a [i32]
 pub fn open<'a>(counts: Counts, clauses: &'a [i32], odds: &'a [i32]) -> Tables<'a>
     requires { used_fault counts clauses.now odds.now ≡ none }
     ensures joined { join_fault (table_store result.clauses) (table_store result.odds) ≡ none }
-    ensures means { (text : List ℕ) → Read_from text counts clauses.now odds.now → MeansText text (joins (table_store result.clauses) (table_store result.odds)) }
-    ensures counts { (text : List ℕ) → Read_from text counts clauses.now odds.now → CountedBy counts (table_store result.clauses) (table_store result.odds) }
+    ensures means { (text : List ℕ) → ReadFrom text counts clauses.now odds.now → MeansText text (joins (table_store result.clauses) (table_store result.odds)) }
+    ensures counts { (text : List ℕ) → ReadFrom text counts clauses.now odds.now → CountedBy counts (table_store result.clauses) (table_store result.odds) }
 {
     Tables::open(
         used(clauses, counts.clause_numbers),

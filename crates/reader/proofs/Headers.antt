@@ -28,24 +28,24 @@ later [] = []
 later (l ∷ ls) = ls
 
 -- the lines after the first of ls, where these begin t
-abbrev Goes_on : List ℕ → List (List ℕ) → Type 0
-Goes_on t ls = Follows (drop (suc (length (first ls))) t) (later ls)
+abbrev GoesOn : List ℕ → List (List ℕ) → Type 0
+GoesOn t ls = Follows (drop (suc (length (first ls))) t) (later ls)
 
-goes_onto : (b : ℕ) (t : List ℕ) (ls : List (List ℕ)) → Goes_on t ls → Goes_on (b ∷ t) (onto b ls)
+goes_onto : (b : ℕ) (t : List ℕ) (ls : List (List ℕ)) → GoesOn t ls → GoesOn (b ∷ t) (onto b ls)
 goes_onto b t [] h = h
 goes_onto b t (l ∷ ls) h = h
 
-goes_on : (t : List ℕ) → Goes_on t (lines t)
+goes_on : (t : List ℕ) → GoesOn t (lines t)
 goes_on [] = inr (refl, refl)
 goes_on (b ∷ t) = by (eqb b 10) (goes_on t)
   where
-    by : (f : Bool) → Goes_on t (lines t) → Goes_on (b ∷ t) (cond f ([] ∷ lines t) (onto b (lines t)))
+    by : (f : Bool) → GoesOn t (lines t) → GoesOn (b ∷ t) (cond f ([] ∷ lines t) (onto b (lines t)))
     by true h = inl refl
     by false h = goes_onto b t (lines t) h
 
 next_line : (text : List ℕ) (at : ℕ) (l : List ℕ) (ls : List (List ℕ)) → Follows (drop at text) (l ∷ ls) → Follows (drop (at + length l + 1) text) ls
 next_line text at l ls (inl e) =
-    let here : Goes_on (drop at text) (l ∷ ls) = subst (Goes_on (drop at text)) e (goes_on (drop at text)) in
+    let here : GoesOn (drop at text) (l ∷ ls) = subst (GoesOn (drop at text)) e (goes_on (drop at text)) in
     let place : drop (suc (length l)) (drop at text) ≡ drop (at + length l + 1) text =
     drop-drop (suc (length l)) at text ∙ ap (λ k. drop k text) (omega arith)
     in

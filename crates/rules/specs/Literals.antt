@@ -1,5 +1,5 @@
 -- Literals, partial and full assignments.
-use Rattle.std.specs.Prelude.{◌≡◌, Bool, true, ◌&&◌, List, [], ◌∷◌, ◌⊎◌, ℕ, zero, suc, ◌≤◌, ◌<◌, length, get_or, set, ℤ, pos, negsuc, eqb}
+use Rattle.std.specs.Prelude.{◌≡◌, Bool, true, ◌&&◌, List, [], ◌∷◌, ◌⊎◌, ℕ, zero, suc, ◌≤◌, ◌<◌, length, ℤ, pos, negsuc, ◌==◌, slice_index, slice_set}
 
 -- A literal is a variable v, from 1 on, or its negation -v. An assignment has a byte for each variable:
 -- 0 free, 1 true, 2 false. The place of a literal is the index of its variable's byte,
@@ -20,11 +20,11 @@ Literal n (pos (suc i)) = i < n
 Literal n (negsuc i) = i < n
 
 abbrev pub is_true : List ℕ → ℤ → Bool
-is_true a l = eqb (get_or a (place l) 0) (side l)
+is_true a l = slice_index a (place l) == side l
 
 -- an assignment with this literal set
 abbrev pub put : List ℕ → ℤ → List ℕ
-put p l = set p (place l) (side l)
+put p l = slice_set p (place l) (side l)
 
 -- an assignment agrees with a list of literals if it makes each of them true
 abbrev pub agrees : List ℕ → List ℤ → Bool
@@ -45,13 +45,13 @@ free (suc b ∷ p) = free p
 -- a partial assignment of n variables
 pub record Partial (n : ℕ) (p : List ℕ) : Type 0 where
   pub long : length p ≡ n
-  pub bytes : (i : ℕ) → get_or p i 0 ≤ 2
+  pub bytes : (i : ℕ) → slice_index p i ≤ 2
 
 -- a full assignment of n variables: none is free
 pub record Full (n : ℕ) (a : List ℕ) : Type 0 where
   pub long : length a ≡ n
-  pub set_all : (i : ℕ) → i < n → (get_or a i 0 ≡ 1) ⊎ (get_or a i 0 ≡ 2)
+  pub set_all : (i : ℕ) → i < n → (slice_index a i ≡ 1) ⊎ (slice_index a i ≡ 2)
 
 -- a has each byte of p that is not free
 abbrev pub Extends : List ℕ → List ℕ → Type 0
-Extends a p = (i : ℕ) → (get_or p i 0 ≡ 0) ⊎ (get_or p i 0 ≡ get_or a i 0)
+Extends a p = (i : ℕ) → (slice_index p i ≡ 0) ⊎ (slice_index p i ≡ slice_index a i)

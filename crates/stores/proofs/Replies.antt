@@ -69,7 +69,7 @@ not_refused Broken e = let z = ap (λ u. u.0) e in omega arith
 not_refused (Forces l) e = let z = ap (λ u. u.0) e in omega arith
 not_refused (Open k) e = let z = ap (λ u. u.0) e in omega arith
 
-refused_never : (s : Store) (r : ℕ) (p : List ℕ) → 1 ≤ r → r ≤ s.m → Partial s.n p → (e : Refusal) → reply_of (Err e) ≡ look_reply s r p → ⊥
+pub refused_never : (s : Store) (r : ℕ) (p : List ℕ) → 1 ≤ r → r ≤ s.m → Partial s.n p → (e : Refusal) → reply_of (Err e) ≡ look_reply s r p → ⊥
 refused_never s r p low high q Unfit h = not_refused (s.look r p) (sym (h ∙ replied s r p low high q))
 
 pub not_refused_there : (s : Store) (r : ℕ) (p : List ℕ) → 1 ≤ r → r ≤ s.m → Partial s.n p → (v : Result Look Refusal) → reply_of v ≡ look_reply s r p → is_ok v ≡ true

@@ -1,4 +1,4 @@
-ghost use Rattle.std.specs.Prelude.{◌≡◌, ℕ, ◌+◌, ◌-◌, true, false, not, ltb, List, [], length, drop, if◌then◌else◌, nat_lt};
+ghost use Rattle.std.specs.Prelude.{◌≡◌, ℕ, ◌+◌, ◌-◌, true, false, not, List, [], length, drop, if◌then◌else◌, nat_lt};
 ghost use Rattle.book.specs.Marks.{number_of, marks_of, free_rows, mark_at, moves, asked, changed, event_of, lend_reply, settle_reply, enter_reply, entered, same_mark, tally_of};
 ghost use Rattle.book.specs.declared.held.Event.TheVariants.{Lend};
 
@@ -88,7 +88,7 @@ impl Book {
     pub fn enter(&mut self) -> Result<u16, Refusal>
         ensures value { result ≡ enter_reply (length (marks_of self.old)) }
         ensures marks { marks_of self.new ≡ entered (marks_of self.old) }
-        ensures free { free_rows self.new ≡ drop (if ltb (length (marks_of self.old)) 4096 then 1 else 0) (free_rows self.old) }
+        ensures free { free_rows self.new ≡ drop (if nat_lt (length (marks_of self.old)) 4096 then 1 else 0) (free_rows self.old) }
     {
         if self.is_full() {
             return Err(Refusal::Full);
