@@ -1,6 +1,6 @@
 // The literals of a record: the side being searched, and what it adds to an entry.
 ghost use Rattle.std.specs.Prelude.{◌≡◌};
-ghost use Rattle.branches.specs.Laying.{opposite as opposite_of, searched as searched_of, written as written_of_lem};
+ghost use Rattle.branches.specs.Laying.{opposite as opposite_of, searched as searched_of, written as written_of};
 
 use outlet::Kind;
 use stack::Record;
@@ -23,7 +23,7 @@ pub fn searched(r: Record) -> i32
 }
 
 pub fn written(kind: Kind, r: Record) -> i32
-    ensures { result ≡ written_of_lem kind r }
+    ensures { result ≡ written_of kind r }
 {
     match kind {
         Kind::Cube => searched(r),

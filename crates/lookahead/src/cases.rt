@@ -2,8 +2,6 @@
 ghost use Rattle.lookahead.specs.Cases.{CasesHold};
 
 // The table of worked examples holds.
-pub fn cases_hold() -> bool
+pub fn cases_hold()
     ensures { CasesHold }
-{
-    true
-}
+{}
