@@ -4,7 +4,7 @@ use Rattle.std.proofs.Math.Option.{some}
 use Rattle.std.specs.Float.{binary64}
 use Rattle.std.specs.Float.Ieee.{round}
 use Rattle.stores.specs.Stores.{Store}
-use Rattle.meaning.specs.declared.Kind.TheVariants.{Clause, Odd}
+use Rattle.rules.specs.declared.kind.Kind.TheVariants.{Clause, Odd}
 use Rattle.meaning.specs.Listed.{listed}
 use Rattle.cutoff.specs.declared.kinds.Cutoff.{Cutoff}
 use Rattle.cutoff.specs.declared.kinds.Cutoff.TheVariants.{Never, Depth, Share}

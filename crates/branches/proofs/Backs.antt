@@ -8,7 +8,7 @@ use Rattle.stack.specs.Items.{items, sound, size}
 use Rattle.account.specs.Piles.{Fit, Place, back, back_by}
 use Rattle.account.proofs.Piles.{fit_below, decision_literal}
 use Rattle.branches.specs.Spelled.{newest_first}
-use Rattle.branches.specs.Laying.{opposite}
+use Rattle.rules.specs.Literals.{opposite}
 use Rattle.branches.proofs.Moves.{opposite_neg}
 
 pub newest : (xs : List Record) (y : Record) → newest_first (xs ++ (y ∷ [])) ≡ y ∷ newest_first xs

@@ -4,7 +4,7 @@ use mathlib.Core.List.{reverse_aux, reverse-reverse}
 use Rattle.std.proofs.lemmas.Int.{int_wrap_fits}
 use Rattle.std.proofs.lemmas.Bool.{cases_eq}
 use Rattle.std.proofs.lemmas.List.{append-nil, append_assoc, at_drop_more, take_more, take_more_set, take-set-le, get_or-take, get_or-set_same, get_or-set_other, set-set, set_comm, set-get_or, length-take-le}
-use Rattle.rules.specs.Literals.{Literal}
+use Rattle.rules.specs.Literals.{Literal, opposite}
 use Rattle.stack.specs.declared.kinds.Record.{Record}
 use Rattle.outlet.specs.declared.kinds.Kind.{Kind}
 use Rattle.outlet.specs.declared.kinds.Kind.TheVariants.{Cube, Learnt}
@@ -13,7 +13,7 @@ use Rattle.account.specs.Piles.{Tall, Fit, taken, path}
 use Rattle.account.proofs.Trails.{each_get}
 use Rattle.account.proofs.Piles.{fit_below, decision_literal}
 use Rattle.branches.specs.Spelled.{newest_first, branch_entry}
-use Rattle.branches.specs.Laying.{opposite, searched, written, laid_one, moved_one, laid, moved_back}
+use Rattle.branches.specs.Laying.{searched, written, laid_one, moved_one, laid, moved_back}
 
 -- ---- negation in 32 bits
 small : (n : ℕ) (l : ℤ) → n ≤ 2048 → Literal n l → SFits w32 (neg_ℤ l)

@@ -1,13 +1,9 @@
 -- How a branch is laid at the start of the trail's memory, and moved back.
-use Rattle.std.specs.Prelude.{ℕ, suc, cond, List, [], ◌∷◌, ℤ, pos, neg_ℤ, slice_index_or, slice_set}
-use Rattle.std.specs.Int.{int_wrap, w32}
+use Rattle.std.specs.Prelude.{ℕ, suc, cond, List, [], ◌∷◌, ℤ, pos, slice_index_or, slice_set}
+use Rattle.rules.specs.Literals.{opposite}
 use Rattle.stack.specs.declared.kinds.Record.{Record}
 use Rattle.outlet.specs.declared.kinds.Kind.{Kind}
 use Rattle.outlet.specs.declared.kinds.Kind.TheVariants.{Cube, Learnt}
-
--- the negation in 32 bits, in which the lowest number is its own
-abbrev pub opposite : ℤ → ℤ
-opposite l = int_wrap w32 (neg_ℤ l)
 
 -- the literal of the side that is being searched, in 32 bits
 abbrev pub searched : Record → ℤ

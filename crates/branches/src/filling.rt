@@ -7,42 +7,8 @@ ghost use Rattle.account.specs.Piles.{partial_of};
 ghost use Rattle.branches.specs.Spelled.{literals_of};
 
 use lookahead::literal_of;
+use rules::assign;
 use stack::Stack;
-
-// The place of a literal's byte.
-fn place_of(literal: i32) -> usize
-    ensures { result ≡ place literal }
-{
-    if literal > 0 {
-        (literal - 1) as usize
-    } else if literal < 0 {
-        (-1 - literal) as usize
-    } else {
-        0
-    }
-}
-
-// The byte that makes a literal true.
-fn side_of(literal: i32) -> u8
-    ensures { result ≡ side literal }
-{
-    if literal < 0 { 2 } else { 1 }
-}
-
-fn write_byte(partial: &mut [u8], i: usize, b: u8)
-    ensures { partial.new ≡ slice_set partial.old i b }
-{
-    if i < partial.len() {
-        partial[i] = b;
-    }
-}
-
-// Makes a literal true; a number that is no literal of these variables changes nothing, but for 0, which is read as 1.
-fn assign_any(partial: &mut [u8], literal: i32)
-    ensures { partial.new ≡ put partial.old literal }
-{
-    write_byte(partial, place_of(literal), side_of(literal));
-}
 
 // The partial of a trail: all free, and then each literal set.
 pub fn fill_partial(trail: &[i32], partial: &mut [u8])
@@ -51,7 +17,7 @@ pub fn fill_partial(trail: &[i32], partial: &mut [u8])
 {
     partial.fill(0);
     for l in trail {
-        assign_any(partial, *l);
+        assign(partial, *l);
     }
 }
 

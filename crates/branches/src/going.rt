@@ -1,14 +1,13 @@
 // A decision, and back from a branch that is done.
 ghost use Rattle.std.specs.Prelude.{◌≡◌, ℕ, ◌<◌, ◌≤◌, true, false, [], ◌∷◌, ◌++◌, length, take, drop, if◌then◌else◌};
-ghost use Rattle.rules.specs.Literals.{free};
+ghost use Rattle.rules.specs.Literals.{free, opposite as opposite_of};
 ghost use Rattle.stack.specs.Items.{items, spares, sound, size as type_size};
 ghost use Rattle.lookahead.specs.Answers.{news};
 ghost use Rattle.account.specs.Piles.{Fit, back};
 ghost use Rattle.branches.specs.Spelled.{newest_first, place_by, unsearched as unsearched_of};
-ghost use Rattle.branches.specs.Laying.{opposite as opposite_of};
 
-use crate::sides::opposite;
 use lookahead::write_news;
+use rules::opposite;
 use stack::{Record, Stack};
 
 // Writes the literals that are set after and were not before behind the first `from` cells, and says how many there are.

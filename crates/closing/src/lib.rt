@@ -5,4 +5,5 @@ mod ending;
 mod rounds;
 
 pub use ending::Ending;
-pub use rounds::{assign, close, try_close};
+pub use rounds::{close, try_close};
+pub use rules::assign;

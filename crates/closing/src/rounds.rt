@@ -1,25 +1,14 @@
 // Closing a partial: each round goes over the rules once and sets what the lowest of them forces.
-ghost use Rattle.std.specs.Prelude.{◌≡◌, length};
-ghost use Rattle.rules.specs.Literals.{Literal, Partial, put};
+ghost use Rattle.std.specs.Prelude.{◌≡◌};
+ghost use Rattle.rules.specs.Literals.{Partial};
 ghost use Rattle.stores.specs.Walks.{lowest_of};
 ghost use Rattle.closing.specs.Closing.{close as closing, left as leaving, left_by, ended, reply_of, close_reply, reply_left};
 ghost use Rattle.closing.specs.Rounds.{ends_at, Went};
 ghost use Rattle.closing.specs.Laws.{ClosingRight};
 
 use crate::ending::Ending;
+use rules::assign;
 use stores::{Find, Refusal, Rules, is_partial};
-
-// Makes a literal true.
-pub fn assign(partial: &mut [u8], literal: i32)
-    requires { Literal (length partial.old) literal }
-    ensures { partial.new ≡ put partial.old literal }
-{
-    if literal > 0 {
-        partial[(literal - 1) as usize] = 1;
-    } else {
-        partial[(-1 - literal) as usize] = 2;
-    }
-}
 
 // Goes over the rules once: sets what the lowest of them forces, or says how the closing ends.
 fn round<S: Rules>(store: &S, partial: &mut [u8]) -> Option<Ending>

@@ -6,8 +6,8 @@ use Rattle.rules.specs.Literals.{Each, Full, Partial, Extends, Literal, place, s
 use Rattle.rules.specs.Rules.{holds, clause_true, true_count, is_odd, Fits}
 use Rattle.stores.specs.declared.look.Look.TheVariants.{Settled, Broken, Forces}
 use Rattle.stores.specs.Stores.{Store, Means, Keeps}
-use Rattle.meaning.specs.declared.Kind.{Kind}
-use Rattle.meaning.specs.declared.Kind.TheVariants.{Clause, Odd}
+use Rattle.rules.specs.declared.kind.Kind.{Kind}
+use Rattle.rules.specs.declared.kind.Kind.TheVariants.{Clause, Odd}
 use Rattle.meaning.specs.Listed.{rule_of, if_free, free_of, look_by, nth_rule, listed}
 
 -- ---- a literal under a partial and under an assignment that extends it

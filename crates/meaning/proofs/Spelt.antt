@@ -6,8 +6,8 @@ use Rattle.rules.specs.Literals.{Each}
 use Rattle.rules.specs.Rules.{Rule, clause, odd, literals, holds, satisfies, Fits, clauses, odds}
 use Rattle.stores.specs.Stores.{Satisfies}
 use Rattle.stores.specs.Joins.{joinable, joins}
-use Rattle.meaning.specs.declared.Kind.{Kind}
-use Rattle.meaning.specs.declared.Kind.TheVariants.{Clause, Odd}
+use Rattle.rules.specs.declared.kind.Kind.{Kind}
+use Rattle.rules.specs.declared.kind.Kind.TheVariants.{Clause, Odd}
 use Rattle.meaning.specs.Listed.{rule_of, nth_rule, listed}
 use Rattle.stores.specs.Joins.{join_fault}
 use Rattle.meaning.specs.Tables.{parts, ends, open_fault, faultless, HoldsRules}

@@ -5,8 +5,8 @@ use Rattle.rules.specs.Rules.{Rule, clause, odd, holds, true_count, is_odd}
 use Rattle.stores.specs.declared.look.Look.{Look}
 use Rattle.stores.specs.declared.look.Look.TheVariants.{Settled, Broken, Forces, Open}
 use Rattle.stores.specs.Stores.{Store}
-use Rattle.meaning.specs.declared.Kind.{Kind}
-use Rattle.meaning.specs.declared.Kind.TheVariants.{Clause, Odd}
+use Rattle.rules.specs.declared.kind.Kind.{Kind}
+use Rattle.rules.specs.declared.kind.Kind.TheVariants.{Clause, Odd}
 
 -- the rule that literals make
 abbrev pub rule_of : Kind → List ℤ → Rule

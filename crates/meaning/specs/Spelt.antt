@@ -5,7 +5,7 @@ use Rattle.rules.specs.Literals.{Each, Full}
 use Rattle.rules.specs.Rules.{Rule, literals, satisfies, Fits, clauses, odds, numbers}
 use Rattle.stores.specs.Stores.{Store, Satisfies}
 use Rattle.stores.specs.Joins.{joins}
-use Rattle.meaning.specs.declared.Kind.TheVariants.{Clause, Odd}
+use Rattle.rules.specs.declared.kind.Kind.TheVariants.{Clause, Odd}
 use Rattle.meaning.specs.Listed.{listed}
 use Rattle.meaning.specs.Tables.{ends, open_fault}
 

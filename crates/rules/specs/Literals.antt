@@ -1,5 +1,6 @@
 -- Literals, partial and full assignments.
-use Rattle.std.specs.Prelude.{◌≡◌, Bool, true, ◌&&◌, List, [], ◌∷◌, ◌⊎◌, ℕ, zero, suc, ◌≤◌, ◌<◌, length, ℤ, pos, negsuc, ◌==◌, slice_index, slice_set}
+use Rattle.std.specs.Prelude.{◌≡◌, Bool, true, ◌&&◌, List, [], ◌∷◌, ◌⊎◌, ℕ, zero, suc, ◌≤◌, ◌<◌, length, ℤ, pos, negsuc, neg_ℤ, ◌==◌, slice_index, slice_set}
+use Rattle.std.specs.Int.{int_wrap, w32}
 
 -- A literal is a variable v, from 1 on, or its negation -v. An assignment has a byte for each variable:
 -- 0 free, 1 true, 2 false. The place of a literal is the index of its variable's byte,
@@ -12,6 +13,10 @@ place (negsuc i) = i
 abbrev pub side : ℤ → ℕ
 side (pos v) = 1
 side (negsuc i) = 2
+
+-- the negation in 32 bits, in which the lowest number is its own
+abbrev pub opposite : ℤ → ℤ
+opposite l = int_wrap w32 (neg_ℤ l)
 
 -- a literal of one of the variables 1 to n
 abbrev pub Literal : ℕ → ℤ → Type 0

@@ -2,5 +2,9 @@
 #![tactic(auto)]
 
 pub mod fault;
+pub mod kind;
+pub mod literal;
 
 pub use fault::{Fault, Reason};
+pub use kind::Kind;
+pub use literal::{assign, byte_of, is_true, opposite, place_of, side_of};

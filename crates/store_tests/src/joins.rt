@@ -1,6 +1,6 @@
 // Looks at two tables joined, and at a join of a join and a table.
 use crate::rows::{Row, hold, refuses, reply};
-use meaning::Kind;
+use rules::Kind;
 use std::process::Abort;
 use std::test::Fail;
 use stores::{Joined, Look, Refusal, Rules};

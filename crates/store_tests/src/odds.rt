@@ -1,6 +1,6 @@
 // Looks at an odd table.
 use crate::rows::{Row, hold_table};
-use meaning::Kind;
+use rules::Kind;
 use std::test::Fail;
 use stores::{Look, Refusal};
 

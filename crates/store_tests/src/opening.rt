@@ -1,6 +1,6 @@
 // What opening a table refuses, as number and index, and tables with next to nothing in them.
 use crate::rows::reply;
-use meaning::Kind;
+use rules::Kind;
 use stores::{Look, Refusal, Rules};
 use tables::{Table, Tables};
 

@@ -1,5 +1,5 @@
 // Tables of looks held to their answers.
-use meaning::Kind;
+use rules::Kind;
 use rules::Fault;
 use std::process::Abort;
 use std::test::Fail;

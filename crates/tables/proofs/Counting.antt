@@ -2,7 +2,7 @@
 use Rattle.std.proofs.Common.{◌≡◌, ℕ, suc, ◌+◌, ◌<◌, ◌≤◌, true, false, List, length, drop, ℤ, sym, refl, ap, ◌∙◌, arith}
 use Rattle.stores.specs.declared.look.Look.{Look}
 use Rattle.stores.specs.Walks.{is_settled, unsettled_by, first_unsettled}
-use Rattle.meaning.specs.declared.Kind.{Kind}
+use Rattle.rules.specs.declared.kind.Kind.{Kind}
 use Rattle.meaning.specs.Listed.{look_at, listed}
 use Rattle.meaning.specs.Tables.{parts, opens}
 use Rattle.meaning.proofs.Tables.{opened_rules}

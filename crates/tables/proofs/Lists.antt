@@ -6,7 +6,7 @@ use Rattle.stores.specs.declared.look.Find.{Find}
 use Rattle.stores.specs.declared.look.Find.TheVariants.{Nothing, Clash, Force}
 use Rattle.stores.specs.Walks.{found_by, found, lowest_of, is_settled, settled_from, all_settled, unsettled_by, unsettled_from, first_unsettled, gain_of, gain_from, gained}
 use Rattle.stores.proofs.Walks.{gain_small}
-use Rattle.meaning.specs.declared.Kind.{Kind}
+use Rattle.rules.specs.declared.kind.Kind.{Kind}
 use Rattle.meaning.specs.Listed.{look_at, listed}
 use Rattle.tables.specs.Scan.{find_of}
 

@@ -1,6 +1,6 @@
 -- The store of a table that was opened.
 use Rattle.std.proofs.Common.{◌≡◌, ℕ, List, ℤ, ap, ◌∙◌, Bor}
-use Rattle.meaning.specs.declared.Kind.{Kind}
+use Rattle.rules.specs.declared.kind.Kind.{Kind}
 use Rattle.meaning.specs.Listed.{listed}
 use Rattle.meaning.specs.Tables.{parts}
 use Rattle.tables.specs.declared.table.Table.{Table}

@@ -2,8 +2,8 @@
 use Rattle.std.proofs.Common.{◌≡◌, ℕ, zero, suc, ◌+◌, ◌≤◌, Bool, true, false, cond, eqb, List, [], ◌∷◌, length, get_or, drop, ℤ, pos, nat_abs, sym, refl, ap, ◌∙◌, subst, arith}
 use Rattle.rules.specs.Literals.{Each, Literal, place, side, is_true}
 use Rattle.rules.specs.Rules.{true_count}
-use Rattle.meaning.specs.declared.Kind.{Kind}
-use Rattle.meaning.specs.declared.Kind.TheVariants.{Clause, Odd}
+use Rattle.rules.specs.declared.kind.Kind.{Kind}
+use Rattle.rules.specs.declared.kind.Kind.TheVariants.{Clause, Odd}
 use Rattle.meaning.specs.Tables.{is_end}
 use Rattle.meaning.specs.Listed.{if_free, free_of, look_by, look_at}
 use Rattle.meaning.proofs.Keeps.{Loose, free_loose}

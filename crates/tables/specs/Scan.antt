@@ -5,8 +5,8 @@ use Rattle.stores.specs.declared.look.Look.{Look}
 use Rattle.stores.specs.declared.look.Look.TheVariants.{Settled, Broken, Forces, Open}
 use Rattle.stores.specs.declared.look.Find.{Find}
 use Rattle.stores.specs.declared.look.Find.TheVariants.{Clash, Force}
-use Rattle.meaning.specs.declared.Kind.{Kind}
-use Rattle.meaning.specs.declared.Kind.TheVariants.{Clause, Odd}
+use Rattle.rules.specs.declared.kind.Kind.{Kind}
+use Rattle.rules.specs.declared.kind.Kind.TheVariants.{Clause, Odd}
 use Rattle.meaning.specs.Tables.{is_end}
 
 -- the literals up to the first 0, and whether there is one

@@ -6,13 +6,12 @@ ghost use Rattle.stores.specs.Numbers.{fault_of};
 ghost use Rattle.stores.specs.Joins.{joins, join_fault};
 ghost use Rattle.meaning.specs.Tables.{open_fault};
 ghost use Rattle.meaning.specs.Spelt.{Filled, MeansRules, together_fault, both_fault};
-ghost use Rattle.meaning.specs.declared.Kind.TheVariants.{Clause, Odd};
+ghost use Rattle.rules.specs.declared.kind.Kind.TheVariants.{Clause, Odd};
 ghost use Rattle.tables.specs.Laws.{table_store};
 
 use crate::opening::count_rules;
 use crate::table::Table;
-use meaning::Kind;
-use rules::{Fault, Reason};
+use rules::{Fault, Kind, Reason};
 
 #[derive(Clone, Copy)]
 pub struct Tables<'a> {

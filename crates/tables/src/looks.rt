@@ -10,7 +10,7 @@ ghost use Rattle.tables.specs.Laws.{table_store, table_laws};
 
 use crate::scan::{literals_at, next_rule, rule_at};
 use crate::table::Table;
-use meaning::Kind;
+use rules::Kind;
 use stores::{Find, Look, Refusal, Rules, gain_of, is_partial};
 
 impl<'a> Table<'a> {

@@ -5,8 +5,7 @@ ghost use Rattle.stores.specs.Numbers.{fault_of};
 ghost use Rattle.meaning.specs.Tables.{ends, has_var, beyond, rule_fault, open_fault, OpensRules, FaultsMean};
 
 use crate::table::Table;
-use meaning::Kind;
-use rules::{Fault, Reason};
+use rules::{Fault, Kind, Reason};
 
 // Whether a literal of the same variable is among these.
 fn has_var(literals: &[i32], literal: i32) -> bool

@@ -2,11 +2,11 @@
 ghost use Rattle.std.specs.Prelude.{◌≡◌, ℕ, suc, ◌+◌, ◌-◌, ◌*◌, ◌^◌, ◌<◌, ◌≤◌, true, length, drop, neg_ℤ, if◌then◌else◌, nat_eq, slice_index, slice_range, unsigned_abs};
 ghost use Rattle.rules.specs.Literals.{Literal, Each, place, side};
 ghost use Rattle.rules.specs.Rules.{true_count, is_odd};
-ghost use Rattle.meaning.specs.declared.Kind.TheVariants.{Clause, Odd};
+ghost use Rattle.rules.specs.declared.kind.Kind.TheVariants.{Clause, Odd};
 ghost use Rattle.meaning.specs.Listed.{free_of, look_at};
 ghost use Rattle.tables.specs.Scan.{front, has_end, next_of, free_by, last_by, last_of, answer_by};
 
-use meaning::Kind;
+use rules::Kind;
 use stores::Look;
 
 // The byte of a literal's variable.

@@ -2,7 +2,7 @@
 ghost use Rattle.std.specs.Prelude.{◌≡◌, true, length};
 ghost use Rattle.meaning.specs.Tables.{parts, opens};
 
-use meaning::Kind;
+use rules::Kind;
 
 // Each rule's literals are followed by a 0.
 #[derive(Clone, Copy)]

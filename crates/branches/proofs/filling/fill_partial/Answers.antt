@@ -15,7 +15,7 @@ loop-l-preserved c =
     let p = c.loop-l.partial in
     let fit : SFits w32 l = search rules in
     let h : i < length ls = omega arith in
-    ap (λ u. set_all u (drop (i + 1) ls)) (c.assign_any.ensures ∙ ap (put p) (to_z-of_z w32 l fit)) ∙ sym (at_drop_more (set_all p) ls i (pos 0) h) ∙ c.loop-l.invariant
+    ap (λ u. set_all u (drop (i + 1) ls)) (c.assign.ensures ∙ ap (put p) (to_z-of_z w32 l fit)) ∙ sym (at_drop_more (set_all p) ls i (pos 0) h) ∙ c.loop-l.invariant
 
 pub returns : goal.returns
 returns c =

@@ -1,7 +1,7 @@
 use Rattle.std.proofs.Common.{◌≡◌, ◌+◌, ◌<◌, ◌≤◌, [], ◌∷◌, ◌++◌, length, take, sym, ap, ◌∙◌, subst, arith}
 use Rattle.std.proofs.lemmas.Bool.{not-true, not-false}
 use Rattle.stack.specs.Items.{items, sound, size}
-use Rattle.branches.specs.Laying.{opposite}
+use Rattle.rules.specs.Literals.{opposite}
 use Rattle.branches.proofs.Backs.{retreats_more, retreats_turn, found_fits}
 use Rattle.branches.proofs.going.retreat.Goals as goal
 

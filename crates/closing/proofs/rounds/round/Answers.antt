@@ -10,14 +10,6 @@ use Rattle.closing.proofs.Ends.{went}
 use Rattle.closing.proofs.Right.{right}
 use Rattle.closing.proofs.rounds.round.Goals as goal
 
-pub assign-requires : goal.assign-requires
-assign-requires g c =
-    let s = g.S.Rules.means c.args.store.now in
-    let l = c.in-Force.l in
-    let fit : SFits w32 l = search rules in
-    let m = said s c.args.partial.now (g.S.Rules.laws.keeps c.args.store.now) c.requires (Force l) c.in-Force.ensures in
-    rw (to_z-of_z w32 l fit, c.requires.long) m.0
-
 pub returns-in-Nothing : goal.returns-in-Nothing
 returns-in-Nothing g c =
     let s = g.S.Rules.means c.args.store.now in
@@ -42,7 +34,7 @@ returns-in-Force g c =
     let l = c.in-Force.l in
     let e = c.in-Force.ensures in
     let fit : SFits w32 l = search rules in
-    let q : c.assign.new.partial ≡ put p l = c.assign.ensures ∙ ap (put p) (to_z-of_z w32 l fit) in
+    let q : c.assign.new.assignment ≡ put p l = c.assign.ensures ∙ ap (put p) (to_z-of_z w32 l fit) in
     record {
       value = ap ends_at e;
       leaves = q ∙ ap (left_by (λ u. u) p) e;

@@ -1,6 +1,6 @@
 use Rattle.std.proofs.Common.{sym, ap, ◌∙◌, subst}
 use Rattle.stores.specs.Joins.{joins, join_fault}
-use Rattle.meaning.specs.declared.Kind.TheVariants.{Clause, Odd}
+use Rattle.rules.specs.declared.kind.Kind.TheVariants.{Clause, Odd}
 use Rattle.meaning.specs.Listed.{listed}
 use Rattle.meaning.specs.Tables.{parts}
 use Rattle.meaning.specs.Spelt.{MeansRules}
