@@ -1,6 +1,7 @@
 -- With how many branches an assignment agrees: a branch split in two, one more entry, the three states of the cubes.
 use Rattle.std.proofs.Common.{◌≡◌, ℕ, ◌+◌, Bool, true, false, cond, not, ◌&&◌, ◌||◌, List, [], ◌∷◌, ◌++◌, map, length, ℤ, neg_ℤ, Some, None, Option as Maybe, sym, refl, ap, ◌∙◌, arith, length-set}
 use lib.IntN.{neg_ℤ-neg_ℤ}
+use Rattle.std.proofs.lemmas.List.Sums.{sum_by-cons}
 use Rattle.rules.specs.Literals.{Each, Literal, Full, is_true, agrees}
 use Rattle.rules.specs.Rules.{clause_true}
 use Rattle.meaning.proofs.Keeps.{true_neg}
@@ -112,4 +113,4 @@ tally_is y [] (x ∷ xs) e = absurd (omega arith)
 tally_is y (d ∷ ds) [] e = refl
 tally_is y (d ∷ ds) (x ∷ xs) e =
     let h = tally_is y ds xs (omega arith) in
-    length_among (same_mark x y) d (cubes_in y ds xs) ∙ ap (λ u. cond (same_mark x y) 1 0 + u) h
+    length_among (same_mark x y) d (cubes_in y ds xs) ∙ ap (λ u. cond (same_mark x y) 1 0 + u) h ∙ sym (sum_by-cons (λ m. cond (same_mark m y) 1 0) x xs)

@@ -1,11 +1,12 @@
 -- A full assignment that is offered: a rule is settled under it if and only if it satisfies the rule.
-use Rattle.std.proofs.Common.{◌≡◌, ℕ, zero, suc, ◌+◌, ◌<◌, ◌≤◌, Bool, true, false, eqb, ◌⊎◌, List, [], ◌∷◌, length, get_or, sym, refl, ap, ◌∙◌, inl, inr, ⊎_elim, arith}
+use Rattle.std.proofs.Common.{◌≡◌, ℕ, zero, suc, ◌+◌, ◌<◌, ◌≤◌, Bool, true, false, cond, eqb, ◌⊎◌, List, [], ◌∷◌, length, get_or, Some, sym, refl, ap, ◌∙◌, inl, inr, ⊎_elim, arith}
 use Rattle.std.proofs.lemmas.Bool.{and_parts, or_cases, eqb-true}
+use Rattle.std.specs.Option.{unwrap_or}
 use Rattle.rules.specs.Literals.{Partial, Full, Extends, place, free}
 use Rattle.stores.specs.declared.look.Look.{Look}
 use Rattle.stores.specs.declared.look.Look.TheVariants.{Settled, Broken, Forces, Open}
 use Rattle.stores.specs.Stores.{Store, Means, Keeps}
-use Rattle.stores.specs.Walks.{is_settled, unsettled_by, unsettled_from, first_unsettled}
+use Rattle.stores.specs.Walks.{is_settled, unsettled_from, first_unsettled}
 use Rattle.meaning.proofs.Keeps.{literal_place}
 use Rattle.account.specs.Calls.{is_side, all_sides, broken_by, first_broken}
 
@@ -49,17 +50,17 @@ module _ (s : Store) (keep : Keeps s) (a : List ℕ) (long : length a ≡ s.n) (
       absurd (⊎_elim (λ (u : get_or a (place l) 0 ≡ 1). omega arith) (λ (u : get_or a (place l) 0 ≡ 2). omega arith) (sides_set a e (place l) (omega arith)))
   settled_means r (Open k) h = let none = none_free a e in absurd (omega (arith, h.0, h.1))
 
-  broken_from : (k r : ℕ) → 1 ≤ r → r + k ≡ suc s.m → unsettled_from s a k r ≡ first_broken s a k r
+  broken_from : (k r : ℕ) → 1 ≤ r → r + k ≡ suc s.m → unwrap_or (unsettled_from s a k r) 0 ≡ first_broken s a k r
   unfolding unsettled_from first_broken
   broken_from zero r low all = refl
   broken_from (suc k) r low all =
-      ap (unsettled_by (unsettled_from s a k) r) (settled_means r (s.look r a) (keep r a low (omega arith) (full_partial s.n a e long)))
+      ap (λ b. unwrap_or (cond b (unsettled_from s a k (suc r)) (Some r)) 0) (settled_means r (s.look r a) (keep r a low (omega arith) (full_partial s.n a e long)))
       ∙ by (s.satisfied r a) (broken_from k (suc r) (omega arith) (omega arith))
     where
-      by : (b : Bool) → unsettled_from s a k (suc r) ≡ first_broken s a k (suc r) → unsettled_by (unsettled_from s a k) r b ≡ broken_by (first_broken s a k) r b
+      by : (b : Bool) → unwrap_or (unsettled_from s a k (suc r)) 0 ≡ first_broken s a k (suc r) → unwrap_or (cond b (unsettled_from s a k (suc r)) (Some r)) 0 ≡ broken_by (first_broken s a k) r b
       by true f = f
       by false f = refl
 
-  -- what the walk finds is the lowest rule that is broken
-  pub offered_broken : first_unsettled s a ≡ first_broken s a s.m 1
+  -- what the walk finds is the lowest rule that is broken, and 0 stands where there is none
+  pub offered_broken : unwrap_or (first_unsettled s a) 0 ≡ first_broken s a s.m 1
   offered_broken = broken_from s.m 1 (omega arith) (omega arith)

@@ -6,7 +6,8 @@ use Rattle.rules.specs.Literals.{place, put, free, Literal, Each}
 use Rattle.meaning.proofs.Keeps.{literal_neg, place_neg}
 use Rattle.stack.specs.declared.kinds.Record.{Record}
 use Rattle.account.specs.Piles.{partial_of, taken, path, second_side, pending_by, pending, pile_of, Tall, Fit, back_by, back, open_at, FitAt, PilesRight}
-use Rattle.account.proofs.Trails.{Fresh, each_append, each_take, each_get, partial_push, fresh_front, fresh_push, fresh_at}
+use Rattle.account.proofs.Trails.{Fresh, each_append, each_take, partial_push, fresh_front, fresh_push, fresh_at}
+use Rattle.lookahead.proofs.News.{each_get}
 
 -- ---- heights
 tall_more : (h k : ℕ) (rs : List Record) → h ≤ k → Tall h rs → Tall k rs

@@ -4,8 +4,8 @@ use lib.ListN.{length-replicate}
 use Rattle.std.proofs.lemmas.List.{take-append-drop, take_more, length_push}
 use Rattle.rules.specs.Literals.{place, side, put, free, Literal, Partial, Each, Extends}
 use Rattle.meaning.proofs.Keeps.{side_suc, free_put}
-use Rattle.closing.proofs.Partials.{put_partial}
 use Rattle.lookahead.specs.Answers.{set_all}
+use Rattle.lookahead.proofs.Turns.{set_all_fits}
 use Rattle.account.specs.Piles.{partial_of}
 
 -- ---- lists
@@ -18,12 +18,6 @@ each_take P zero xs h = tt
 each_take P (suc k) [] h = tt
 each_take P (suc k) (x ∷ xs) h = (h.0, each_take P k xs h.1)
 
--- of an element within the list, whatever the default is
-pub each_get : {A : Type 0} (P : A → Type 0) (xs : List A) (i : ℕ) (d : A) → i < length xs → Each P xs → P (get_or xs i d)
-each_get P [] i d h k = absurd (omega arith)
-each_get P (x ∷ xs) zero d h k = k.0
-each_get P (x ∷ xs) (suc i) d h k = each_get P xs i d (omega arith) k.1
-
 -- ---- the partial of a trail
 pub set_all_append : (p : List ℕ) (xs ys : List ℤ) → set_all p (xs ++ ys) ≡ set_all (set_all p xs) ys
 set_all_append p [] ys = refl
@@ -31,10 +25,6 @@ set_all_append p (x ∷ xs) ys = set_all_append (put p x) xs ys
 
 pub partial_push : (n : ℕ) (trail : List ℤ) (l : ℤ) → partial_of n (trail ++ (l ∷ [])) ≡ put (partial_of n trail) l
 partial_push n trail l = set_all_append (replicate n 0) trail (l ∷ [])
-
-set_all_partial : (n : ℕ) (p : List ℕ) (ls : List ℤ) → Partial n p → Partial n (set_all p ls)
-set_all_partial n p [] h = h
-set_all_partial n p (l ∷ ls) h = set_all_partial n (put p l) ls (put_partial n p l h)
 
 pub zero_at : (n i : ℕ) → get_or {A = ℕ} (replicate n 0) i 0 ≡ 0
 zero_at zero i = refl
@@ -49,7 +39,7 @@ pub free_extends : (a : List ℕ) (n : ℕ) → Extends a (replicate n 0)
 free_extends a n i = inl (zero_at n i)
 
 pub partial_fits : (n : ℕ) (trail : List ℤ) → Partial n (partial_of n trail)
-partial_fits n trail = set_all_partial n (replicate n 0) trail (free_partial n)
+partial_fits n trail = set_all_fits n (replicate n 0) trail (free_partial n)
 
 -- ---- how many variables are free
 free_all : (n : ℕ) → free (replicate n 0) ≡ n

@@ -1,5 +1,5 @@
 -- The cubes of a book, their states, and what an event does to one of them.
-use Rattle.std.specs.Prelude.{ℕ, ◌+◌, ◌-◌, Bool, true, false, cond, ◌&&◌, List, [], ◌∷◌, ◌++◌, length, take, drop, Some, None, Ok, Err, Option, Result, nat_le, nat_lt, slice_index_or, slice_set}
+use Rattle.std.specs.Prelude.{◌≡◌, ℕ, ◌+◌, ◌-◌, Bool, true, false, cond, ◌&&◌, List, [], ◌∷◌, ◌++◌, length, take, drop, Some, None, Ok, Err, Option, Result, nat_le, nat_lt, slice_index_or, slice_set, count_by}
 use Rattle.book.specs.declared.held.Mark.{Mark}
 use Rattle.book.specs.declared.held.Mark.TheVariants.{Waiting, Out, Closed}
 use Rattle.book.specs.declared.held.Event.{Event}
@@ -53,6 +53,11 @@ abbrev pub changed : List Mark → ℕ → Option Mark → List Mark
 changed ms cube None = ms
 changed ms cube (Some m) = slice_set ms (cube - 1) m
 
+-- that one entry of a book is changed, and the rows behind the cubes are as they were
+pub record ChangesOnly (before after : Book) (cube : ℕ) (next : Option Mark) : Type 0 where
+  pub marks : marks_of after ≡ changed (marks_of before) cube next
+  pub free : free_rows after ≡ free_rows before
+
 -- the event that a holder's word stands for
 abbrev pub event_of : Word → Event
 event_of word.Closed = Close
@@ -88,5 +93,4 @@ same_mark Closed Closed = true
 
 -- how many cubes are in a state
 abbrev pub tally_of : Mark → List Mark → ℕ
-tally_of m [] = 0
-tally_of m (x ∷ xs) = cond (same_mark x m) 1 0 + tally_of m xs
+tally_of m ms = count_by (λ x. same_mark x m) ms

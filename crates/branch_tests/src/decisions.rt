@@ -1,4 +1,4 @@
-use branches::{push_decision, retreat, unsearched};
+use branches::{Pile, unsearched};
 use stack::{Record, Stack};
 
 const NONE: Record = Record {
@@ -16,10 +16,7 @@ fn decided(decision: i32, height: usize, second: bool) -> Record {
 }
 
 // 1 on its first side, and above it -2 and -3 on their second sides.
-fn pile<'a>(
-    trail: &'a mut [i32],
-    records: &'a mut [Record],
-) -> (Stack<'a, i32>, Stack<'a, Record>) {
+fn pile<'a>(trail: &'a mut [i32], records: &'a mut [Record]) -> Pile<'a> {
     let mut trail = Stack::new(trail);
     for l in [5, 1, 6, -2, -3, 7] {
         trail.put(l);
@@ -28,32 +25,34 @@ fn pile<'a>(
     records.put(decided(1, 1, false));
     records.put(decided(2, 3, true));
     records.put(decided(3, 4, true));
-    (trail, records)
+    Pile { trail, records }
 }
 
 #[test]
 fn back_over_two_levels(rt: HostRuntime) {
     let mut cells = [0i32; 7];
     let mut places = [NONE; 7];
-    let (mut trail, mut records) = pile(&mut cells, &mut places);
-    assert!(rt; unsearched(records.as_slice()) == 1);
-    let more = retreat(&mut trail, &mut records);
-    assert!(rt; more && trail.as_slice() == [5, -1].as_slice());
-    assert!(rt; records.as_slice() == [decided(1, 1, true)].as_slice());
-    assert!(rt; unsearched(records.as_slice()) == 0);
-    let more = retreat(&mut trail, &mut records);
-    assert!(rt; !more && records.as_slice().is_empty());
+    let mut pile = pile(&mut cells, &mut places);
+    assert!(rt; unsearched(pile.records.as_slice()) == 1);
+    let more = pile.retreat();
+    assert!(rt; more && pile.trail.as_slice() == [5, -1].as_slice());
+    assert!(rt; pile.records.as_slice() == [decided(1, 1, true)].as_slice());
+    assert!(rt; unsearched(pile.records.as_slice()) == 0);
+    let more = pile.retreat();
+    assert!(rt; !more && pile.records.as_slice().is_empty());
 }
 
 #[test]
 fn a_decision_takes_what_is_new(rt: HostRuntime) {
     let mut cells = [0i32; 4];
     let mut places = [NONE; 4];
-    let mut trail = Stack::new(&mut cells);
-    let mut records = Stack::new(&mut places);
-    push_decision(&mut trail, &mut records, &[0, 0, 0], &[1, 0, 2], -2);
-    assert!(rt; trail.as_slice() == [1, -3, -2].as_slice());
-    assert!(rt; records.as_slice() == [decided(-2, 2, false)].as_slice());
-    let more = retreat(&mut trail, &mut records);
-    assert!(rt; more && trail.as_slice() == [1, -3, 2].as_slice());
+    let mut pile = Pile {
+        trail: Stack::new(&mut cells),
+        records: Stack::new(&mut places),
+    };
+    pile.push_decision(&[0, 0, 0], &[1, 0, 2], -2);
+    assert!(rt; pile.trail.as_slice() == [1, -3, -2].as_slice());
+    assert!(rt; pile.records.as_slice() == [decided(-2, 2, false)].as_slice());
+    let more = pile.retreat();
+    assert!(rt; more && pile.trail.as_slice() == [1, -3, 2].as_slice());
 }

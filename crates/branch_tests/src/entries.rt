@@ -1,5 +1,5 @@
 use branches::{fill_partial, free_count, lay_model, put_branch};
-use outlet::{Kind, NumberOutlet, Outlet};
+use outlet::{Kind, NumberOutlet, Outlet, Refusal};
 use stack::{Record, Stack};
 
 // Three decisions: 1 on its first side, -2 and 3, with other literals before and between them.
@@ -23,26 +23,32 @@ const RECORDS: [Record; 3] = [
     },
 ];
 
-// Puts the first records' branch into so many places: whether it fits, the numbers, and that the trail is as before.
-fn put_as(places: usize, kind: Kind, records: &[Record], fits: bool, numbers: &[i32]) -> bool {
+// Puts the first records' branch into so many places: the answer, the numbers, and that the trail is as before.
+fn put_as(
+    places: usize,
+    kind: Kind,
+    records: &[Record],
+    answer: Result<(), Refusal>,
+    numbers: &[i32],
+) -> bool {
     let mut trail = TRAIL;
     let mut memory = [0i32; 8];
     if places > memory.len() {
         return false;
     }
     let mut out = NumberOutlet::new(&mut memory[0..places]);
-    let fitted = put_branch(&mut out, kind, &mut trail, records);
-    fitted == fits && out.as_slice() == numbers && trail == TRAIL
+    let answered = put_branch(&mut out, kind, &mut trail, records);
+    answered == answer && out.as_slice() == numbers && trail == TRAIL
 }
 
 #[test]
 fn branches_are_written_and_the_trail_stays(rt: HostRuntime) {
-    assert!(rt; put_as(5, Kind::Cube, &RECORDS, true, &[1, 3, 1, -2, 3]));
-    assert!(rt; put_as(5, Kind::Learnt, &RECORDS, true, &[2, 3, -1, 2, -3]));
-    assert!(rt; put_as(8, Kind::Cube, &RECORDS[0..1], true, &[1, 1, 1]));
-    assert!(rt; put_as(2, Kind::Learnt, &RECORDS[0..0], true, &[2, 0]));
-    assert!(rt; put_as(4, Kind::Cube, &RECORDS, false, &[]));
-    assert!(rt; put_as(0, Kind::Learnt, &RECORDS, false, &[]));
+    assert!(rt; put_as(5, Kind::Cube, &RECORDS, Ok(()), &[1, 3, 1, -2, 3]));
+    assert!(rt; put_as(5, Kind::Learnt, &RECORDS, Ok(()), &[2, 3, -1, 2, -3]));
+    assert!(rt; put_as(8, Kind::Cube, &RECORDS[0..1], Ok(()), &[1, 1, 1]));
+    assert!(rt; put_as(2, Kind::Learnt, &RECORDS[0..0], Ok(()), &[2, 0]));
+    assert!(rt; put_as(4, Kind::Cube, &RECORDS, Err(Refusal::NoRoom), &[]));
+    assert!(rt; put_as(0, Kind::Learnt, &RECORDS, Err(Refusal::NoRoom), &[]));
 }
 
 #[test]
@@ -62,8 +68,8 @@ fn decisions_in_a_row_are_written(rt: HostRuntime) {
     let mut trail = [-4, 3];
     let mut memory = [0i32; 4];
     let mut out = NumberOutlet::new(&mut memory);
-    let fitted = put_branch(&mut out, Kind::Learnt, &mut trail, &records);
-    assert!(rt; fitted && trail == [-4, 3]);
+    let answer = put_branch(&mut out, Kind::Learnt, &mut trail, &records);
+    assert!(rt; answer == Ok(()) && trail == [-4, 3]);
     assert!(rt; out.as_slice() == [2, 2, 4, -3].as_slice());
 }
 
@@ -72,8 +78,8 @@ fn more_records_than_cells_are_refused(rt: HostRuntime) {
     let mut trail = [1, 2];
     let mut memory = [0i32; 8];
     let mut out = NumberOutlet::new(&mut memory);
-    let fitted = put_branch(&mut out, Kind::Cube, &mut trail, &RECORDS);
-    assert!(rt; !fitted && trail == [1, 2] && out.as_slice().is_empty());
+    let answer = put_branch(&mut out, Kind::Cube, &mut trail, &RECORDS);
+    assert!(rt; answer == Err(Refusal::NoRoom) && trail == [1, 2] && out.as_slice().is_empty());
 }
 
 #[test]

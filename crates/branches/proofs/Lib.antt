@@ -1,2 +1,4 @@
 pub mod Moves
 pub mod Backs
+pub mod Counts
+pub mod Models

@@ -1,17 +1,18 @@
 -- A branch laid at the start of the trail's memory: what it reads, and that moving it back leaves the memory as it was.
-use Rattle.std.proofs.Common.{◌≡◌, ℕ, zero, suc, ◌+◌, ◌<◌, ◌≤◌, Bool, true, false, cond, ◌≢◌, List, [], ◌∷◌, ◌++◌, map, length, get_or, take, drop, set, ℤ, pos, negsuc, neg_ℤ, sym, refl, ap, ◌∙◌, subst, ⊎_elim, add-zero, arith, length-set, length-take, w32, SFits}
+use Rattle.std.proofs.Common.{◌≡◌, ℕ, zero, suc, ◌+◌, ◌<◌, ◌≤◌, Bool, true, false, cond, ◌≢◌, List, [], ◌∷◌, ◌++◌, map, length, get_or, take, drop, set, ℤ, pos, negsuc, neg_ℤ, sym, refl, ap, ◌∙◌, subst, ⊎_elim, add-zero, zero-add, arith, length-set, length-take, is_ok, w32, SFits}
 use mathlib.Core.List.{reverse_aux, reverse-reverse}
+use Rattle.std.proofs.lemmas.List.{length-reverse}
 use Rattle.std.proofs.lemmas.Int.{int_wrap_fits}
 use Rattle.std.proofs.lemmas.Bool.{cases_eq}
-use Rattle.std.proofs.lemmas.List.{append-nil, append_assoc, at_drop_more, take_more, take_more_set, take-set-le, get_or-take, get_or-set_same, get_or-set_other, set-set, set_comm, set-get_or, length-take-le}
+use Rattle.std.proofs.lemmas.List.{append-nil, append_assoc, at_drop_more, take_more_set, take-set-le, get_or-take, get_or-set_same, get_or-set_other, set-set, set_comm, set-get_or}
 use Rattle.rules.specs.Literals.{Literal, opposite}
 use Rattle.stack.specs.declared.kinds.Record.{Record}
 use Rattle.outlet.specs.declared.kinds.Kind.{Kind}
 use Rattle.outlet.specs.declared.kinds.Kind.TheVariants.{Cube, Learnt}
-use Rattle.outlet.specs.Entries.{cube, learnt, entry_of}
+use Rattle.outlet.specs.Entries.{cube, learnt, entry_of, put_reply}
 use Rattle.account.specs.Piles.{Tall, Fit, taken, path}
-use Rattle.account.proofs.Trails.{each_get}
-use Rattle.account.proofs.Piles.{fit_below, decision_literal}
+use Rattle.lookahead.proofs.News.{each_get}
+use Rattle.account.proofs.Piles.{fit_below, decision_literal, few_records}
 use Rattle.branches.specs.Spelled.{newest_first, branch_entry}
 use Rattle.branches.specs.Laying.{searched, written, laid_one, moved_one, laid, moved_back}
 
@@ -42,14 +43,8 @@ moved_push i (x ∷ xs) r cells =
     let j : suc i + length xs ≡ i + suc (length xs) = omega arith in
     ap (moved_one i x) (moved_push (suc i) xs r cells ∙ ap (λ u. moved_back (suc i) xs (moved_one u r cells)) j)
 
-pub moved_more : (rs : List Record) (cells new : List ℤ) (i : ℕ) (d : Record) → i < length rs → new ≡ moved_one i (get_or rs i d) cells →
-    moved_back 0 (take i rs) new ≡ moved_back 0 (take (i + 1) rs) cells
-moved_more rs cells new i d h e =
-    let long : length (take i rs) ≡ i = length-take-le i rs (omega arith) in
-    let j : 0 + length (take i rs) ≡ i = omega arith in
-    ap (moved_back 0 (take i rs)) (e ∙ ap (λ u. moved_one u (get_or rs i d) cells) (sym j))
-    ∙ sym (moved_push 0 (take i rs) (get_or rs i d) cells)
-    ∙ ap (λ u. moved_back 0 u cells) (sym (take_more rs i d h))
+pub moved_last : (xs : List Record) (r : Record) (cells : List ℤ) → moved_back 0 (xs ++ (r ∷ [])) cells ≡ moved_back 0 xs (moved_one (length xs) r cells)
+moved_last xs r cells = moved_push 0 xs r cells ∙ ap (λ u. moved_back 0 xs (moved_one u r cells)) (zero-add (length xs))
 
 -- ---- records that stand on the trail
 pub record Stood (cells : List ℤ) (r : Record) : Type 0 where
@@ -104,7 +99,7 @@ ready_from n len cells h (r ∷ ys) zs few f t q =
     ready_from n len cells r.height ys (r ∷ zs) few (fit_below n (take len cells) r ys f) t.1
     (omega arith, stood n len cells r ys few f, ready_lower cells h (suc r.height) zs (omega arith) q)
 
-pub ready : (n len : ℕ) (cells : List ℤ) (rs : List Record) → n ≤ 2048 → Fit n (take len cells) (newest_first rs) → Ready cells 0 rs
+ready : (n len : ℕ) (cells : List ℤ) (rs : List Record) → n ≤ 2048 → Fit n (take len cells) (newest_first rs) → Ready cells 0 rs
 ready n len cells rs few f =
     subst (Ready cells 0) (reverse-reverse rs) (ready_from n len cells (length (take len cells)) (newest_first rs) [] few f f.tall tt)
 
@@ -139,7 +134,7 @@ laid_ready k i r rs cells w q =
     let a = get_or cells i (pos 0) in
     ready_set (set cells h a) i (written k r) (suc h) rs (omega arith) (ready_set cells h a (suc h) rs (omega arith) q)
 
-pub undone : (k : Kind) (i lo : ℕ) (rs : List Record) (cells : List ℤ) → i ≤ lo → Ready cells lo rs → moved_back i rs (laid k i rs cells) ≡ cells
+undone : (k : Kind) (i lo : ℕ) (rs : List Record) (cells : List ℤ) → i ≤ lo → Ready cells lo rs → moved_back i rs (laid k i rs cells) ≡ cells
 undone k i lo [] cells w q = refl
 undone k i lo (r ∷ rs) cells w q =
     let low = q.0 in
@@ -182,7 +177,29 @@ entry_is : (k : Kind) (cells : List ℤ) (rs : List Record) → Ready cells 0 rs
 entry_is Cube cells rs q = ap cube (as_cube cells 0 rs q ∙ sym (path_from rs []))
 entry_is Learnt cells rs q = ap learnt (as_learnt cells 0 rs q ∙ ap (map neg_ℤ) (sym (path_from rs [])))
 
-pub laid_entry : (k : Kind) (cells : List ℤ) (rs : List Record) (d : ℕ) → d ≡ length rs → Ready cells 0 rs → entry_of k (take d (laid k 0 rs cells)) ≡ branch_entry k rs
+laid_entry : (k : Kind) (cells : List ℤ) (rs : List Record) (d : ℕ) → d ≡ length rs → Ready cells 0 rs → entry_of k (take d (laid k 0 rs cells)) ≡ branch_entry k rs
 laid_entry k cells rs d e q =
     let j : d ≡ 0 + length rs = omega arith in
     ap (λ u. entry_of k (take u (laid k 0 rs cells))) j ∙ ap (entry_of k) (front k 0 0 rs cells (omega arith) q) ∙ entry_is k cells rs q
+
+-- ---- of a fit trail, by itself and what was laid over it
+pub few : (n len : ℕ) (cells : List ℤ) (rs : List Record) → Fit n (take len cells) (newest_first rs) → length rs ≤ length cells
+few n len cells rs f =
+    let few = few_records n (take len cells) (newest_first rs) f in
+    let long = length-reverse rs in
+    let part = length-take len cells in
+    omega arith
+
+pub entry_laid : (n len : ℕ) (k : Kind) (cells : List ℤ) (rs : List Record) → n ≤ 2048 → Fit n (take len cells) (newest_first rs) →
+    entry_of k (take (length rs) (laid k 0 rs cells)) ≡ branch_entry k rs
+entry_laid n len k cells rs h f = laid_entry k cells rs (length rs) refl (ready n len cells rs h f)
+
+pub back_in_place : (n len : ℕ) (k : Kind) (cells : List ℤ) (rs : List Record) → n ≤ 2048 → Fit n (take len cells) (newest_first rs) →
+    moved_back 0 rs (laid k 0 rs cells) ≡ cells
+back_in_place n len k cells rs h f = undone k 0 0 rs cells (omega arith) (ready n len cells rs h f)
+
+pub reply_told : (b : Bool) → is_ok (put_reply b) ≡ b
+reply_told true = refl
+reply_told false = refl
+
+pub ruleset branch_laid = (few, entry_laid, back_in_place, reply_told)

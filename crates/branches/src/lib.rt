@@ -6,6 +6,7 @@ mod going;
 mod sides;
 mod writing;
 
-pub use filling::{fill_partial, free_count, lay_model};
-pub use going::{push_decision, retreat, unsearched};
+pub use filling::{fill_partial, lay_model};
+pub use going::{Pile, unsearched};
+pub use rules::free_count;
 pub use writing::put_branch;

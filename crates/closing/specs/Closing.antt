@@ -1,14 +1,13 @@
 -- Closing a partial assignment over a store.
-use Rattle.std.specs.Prelude.{ℕ, zero, suc, cond, List, Ok, Err, Result}
+use Rattle.std.specs.Prelude.{ℕ, zero, suc, cond, List, Ok, Err, Result, Some, None, Option}
 use Rattle.rules.specs.Literals.{put, free}
 use Rattle.stores.specs.declared.look.Find.{Find}
-use Rattle.stores.specs.declared.look.Find.TheVariants.{Nothing, Clash, Force}
+use Rattle.stores.specs.declared.look.Find.TheVariants.{Clash, Force}
 use Rattle.stores.specs.declared.look.Refusal.{Refusal}
 use Rattle.stores.specs.Numbers.{number_of}
 use Rattle.stores.specs.Stores.{Store, is_partial}
 use Rattle.stores.specs.Walks.{lowest_of}
-use Rattle.closing.specs.declared.ending.Ending.{Ending}
-use Rattle.closing.specs.declared.ending.Ending.TheVariants.{Clash as Clashed, Closed}
+use Rattle.closing.specs.declared.ending.Clash.{Clash as Clashed}
 
 -- a closing ends in a clash, or in a partial that is closed
 pub data Closing : Type 0 where
@@ -17,10 +16,10 @@ pub data Closing : Type 0 where
 
 -- By what the lowest rule that is broken or forces says: with no such rule the partial is closed, broken is a clash,
 -- and a forced literal is set and the closing goes on.
-abbrev pub close_by : (List ℕ → Closing) → List ℕ → Find → Closing
-close_by again p Nothing = closes p
-close_by again p Clash = clash
-close_by again p (Force l) = again (put p l)
+abbrev pub close_by : (List ℕ → Closing) → List ℕ → Option Find → Closing
+close_by again p None = closes p
+close_by again p (Some Clash) = clash
+close_by again p (Some (Force l)) = again (put p l)
 
 -- at most k rounds
 unfoldable pub close_in : Store → ℕ → List ℕ → Closing
@@ -32,10 +31,10 @@ unfoldable pub close : Store → List ℕ → Closing
 close s p = close_in s (suc (free p)) p
 
 -- The partial that is left in the memory: the closed one, or the one in which the clash was met.
-abbrev pub left_by : (List ℕ → List ℕ) → List ℕ → Find → List ℕ
-left_by again p Nothing = p
-left_by again p Clash = p
-left_by again p (Force l) = again (put p l)
+abbrev pub left_by : (List ℕ → List ℕ) → List ℕ → Option Find → List ℕ
+left_by again p None = p
+left_by again p (Some Clash) = p
+left_by again p (Some (Force l)) = again (put p l)
 
 unfoldable pub left_in : Store → ℕ → List ℕ → List ℕ
 left_in s zero p = p
@@ -45,17 +44,17 @@ unfoldable pub left : Store → List ℕ → List ℕ
 left s p = left_in s (suc (free p)) p
 
 -- the code's answer, with the partial that it leaves
-abbrev pub ended : Ending → List ℕ → Closing
-ended Clashed q = clash
-ended Closed q = closes q
+abbrev pub ended : {A : Type 0} → Result A Clashed → List ℕ → Closing
+ended (Ok u) q = closes q
+ended (Err e) q = clash
 
 -- a call that checks its partial is refused by a number, or closes
 pub data Reply : Type 0 where
   refused : ℕ → Reply
   done : Closing → Reply
 
-abbrev pub reply_of : Result Ending Refusal → List ℕ → Reply
-reply_of (Ok e) q = done (ended e q)
+abbrev pub reply_of : Result (Result (Unit {0}) Clashed) Refusal → List ℕ → Reply
+reply_of (Ok r) q = done (ended r q)
 reply_of (Err e) q = refused (number_of e)
 
 -- bytes that are no partial assignment are refused by 18, and left as they are

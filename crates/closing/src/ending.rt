@@ -1,8 +1,3 @@
-// How a closing ends.
+// A rule is broken: no satisfying assignment extends the partial.
 #[derive(Clone, Copy, PartialEq, Eq, Debug)]
-pub enum Ending {
-    // a rule is broken: no satisfying assignment extends the partial
-    Clash,
-    // no rule is broken or forces
-    Closed,
-}
+pub struct Clash;

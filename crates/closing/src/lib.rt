@@ -4,6 +4,6 @@
 mod ending;
 mod rounds;
 
-pub use ending::Ending;
+pub use ending::Clash;
 pub use rounds::{close, try_close};
 pub use rules::assign;

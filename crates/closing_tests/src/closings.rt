@@ -1,15 +1,15 @@
 // What a closing ends with, and the partial that it leaves.
-use closing::{Ending, try_close};
+use closing::{Clash, try_close};
 use std::process::Abort;
 use std::test::Fail;
 use stores::{ByLook, Joined, Refusal, Rules};
 use tables::Tables;
 
 // A partial of four variables, how its closing ends, and what is left.
-type Row = ([u8; 4], Result<Ending, Refusal>, [u8; 4]);
+type Row = ([u8; 4], Result<Result<(), Clash>, Refusal>, [u8; 4]);
 
 // How the closing of a partial ends, and what is left.
-fn closed<S: Rules>(store: &S, before: [u8; 4]) -> (Result<Ending, Refusal>, [u8; 4]) {
+fn closed<S: Rules>(store: &S, before: [u8; 4]) -> (Result<Result<(), Clash>, Refusal>, [u8; 4]) {
     let mut partial = before;
     let ends = try_close(store, &mut partial);
     (ends, partial)
@@ -46,17 +46,17 @@ const ODDS: [i32; 4] = [1, 3, 4, 0];
 
 const JOINED: [Row; 8] = [
     // nothing is forced
-    ([0, 0, 0, 0], Ok(Ending::Closed), [0, 0, 0, 0]),
+    ([0, 0, 0, 0], Ok(Ok(())), [0, 0, 0, 0]),
     // 2, -3 and 4 one after another, and then the odd rule is broken
-    ([1, 0, 0, 0], Ok(Ending::Clash), [1, 1, 2, 1]),
+    ([1, 0, 0, 0], Ok(Err(Clash)), [1, 1, 2, 1]),
     // -3, 4 and then -1 by the odd rule
-    ([0, 1, 0, 0], Ok(Ending::Closed), [2, 1, 2, 1]),
+    ([0, 1, 0, 0], Ok(Ok(())), [2, 1, 2, 1]),
     // -2, then -1 by rule 1, then -4 by the odd rule
-    ([0, 0, 1, 0], Ok(Ending::Closed), [2, 2, 1, 2]),
+    ([0, 0, 1, 0], Ok(Ok(())), [2, 2, 1, 2]),
     // broken at once: nothing is set
-    ([1, 2, 0, 0], Ok(Ending::Clash), [1, 2, 0, 0]),
+    ([1, 2, 0, 0], Ok(Err(Clash)), [1, 2, 0, 0]),
     // closing a closed partial changes nothing
-    ([2, 2, 1, 2], Ok(Ending::Closed), [2, 2, 1, 2]),
+    ([2, 2, 1, 2], Ok(Ok(())), [2, 2, 1, 2]),
     // a byte above 2 is refused
     ([3, 0, 0, 0], Err(Refusal::Unfit), [3, 0, 0, 0]),
     ([1, 0, 0, 255], Err(Refusal::Unfit), [1, 0, 0, 255]),
@@ -80,11 +80,11 @@ const ORDERED: [i32; 11] = [3, -2, 0, 4, -1, 0, 2, 0, -4, -3, 0];
 // A literal that a later rule forces can make a lower one force, which then comes first.
 const LOWEST_FIRST: [Row; 3] = [
     // 2, then 3 by rule 1, then -4, then -1 by rule 2
-    ([0, 0, 0, 0], Ok(Ending::Closed), [2, 1, 1, 2]),
+    ([0, 0, 0, 0], Ok(Ok(())), [2, 1, 1, 2]),
     // 4 by rule 2, 2 by rule 3, 3 by rule 1, and rule 4 is broken
-    ([1, 0, 0, 0], Ok(Ending::Clash), [1, 1, 1, 1]),
+    ([1, 0, 0, 0], Ok(Err(Clash)), [1, 1, 1, 1]),
     // rule 2 forces 4 before rule 3 is seen to be broken
-    ([1, 2, 0, 0], Ok(Ending::Clash), [1, 2, 0, 1]),
+    ([1, 2, 0, 0], Ok(Err(Clash)), [1, 2, 0, 1]),
 ];
 
 #[test]

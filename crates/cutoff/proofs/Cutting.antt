@@ -1,10 +1,10 @@
 -- Whole numbers of a few digits are doubles, so the comparison that cuts is one of exact numbers.
-use Rattle.std.proofs.Common.{◌≡◌, ℕ, zero, suc, ◌+◌, ◌*◌, ◌^◌, ◌<◌, ◌≤◌, Bool, true, false, T, ltb, pos, sym, refl, ap, ◌∙◌, subst, true≢false, lt_of_lt_of_le, mul-le-mul_right, mul-le-mul, mul-lt-mul_of_pos_right, mul-pos, mul-zero, zero-mul, mul-one, mul_right_comm, arith, lit<, lit≤, pow_mono, shl_lt, ltb-false, ltb-true, le-ltb, lt-ltb}
-use lib.Ieee.{Float, nan, inf, fin, binary64, round, mul, lt, le, of_int, of_bits, up, down}
-use lib.Ieee.Fits.{down_pos}
+use Rattle.std.proofs.Common.{◌≡◌, ℕ, zero, suc, ◌+◌, ◌*◌, ◌^◌, ◌<◌, ◌≤◌, true, false, T, ltb, pos, sym, refl, ap, ◌∙◌, subst, lt_of_lt_of_le, mul-le-mul, mul-pos, mul-zero, zero-mul, mul-one, arith, lit<, lit≤, pow_mono, shl_lt}
+use lib.Ieee.{Float, nan, inf, fin, binary64, round, mul, lt, le, of_int, of_bits}
 use lib.Ieee.Exact.{HasValue, round_exact}
 use lib.Ieee.Order.{le_of_values}
 use lib.Ieee.Scale.{finite}
+use Rattle.std.specs.Float.Order.{lt_at}
 use lib.Ieee.Positive.{positive, num, den, den_pos, own_value, positive_of_value, mul_at, mul_mono, between}
 use Rattle.cutoff.specs.declared.kinds.Cutoff.{Cutoff}
 use Rattle.cutoff.specs.declared.kinds.Cutoff.TheVariants.{Never, Depth, Share, Easing}
@@ -29,28 +29,6 @@ whole_positive k p h = positive_of_value (whole k) k 1 (whole_value k h) p
 
 whole_le : (j k : ℕ) → j ≤ k → j < 2 ^ 53 → k < 2 ^ 53 → T (le (whole j) (whole k))
 whole_le j k l h i = le_of_values (whole j) (whole k) j 1 k 1 (lit< tt) (lit< tt) (whole_value j h) (whole_value k i) (omega arith)
-
--- comparing with a whole number b is comparing fractions
-scale_ltb : (a b k : ℕ) → 0 < k → ltb (a * k) (b * k) ≡ ltb a b
-scale_ltb a b k p = go (ltb a b) refl
-  where
-    go : (t : Bool) → ltb a b ≡ t → ltb (a * k) (b * k) ≡ t
-    go true e = lt-ltb (a * k) (b * k) (mul-lt-mul_of_pos_right (ltb-true a b e) p)
-    go false e = le-ltb (a * k) (b * k) (mul-le-mul_right k (ltb-false a b e))
-
-below_whole : (x y : Float) (a c b : ℕ) → HasValue x false a c → HasValue y false b 1 → lt x y ≡ ltb (num x) (b * den x)
-unfolding lt
-below_whole nan y a c b h k = absurd h
-below_whole (inf s) y a c b h k = absurd h
-below_whole (fin true m e) y a c b h k = absurd (true≢false h.0)
-below_whole (fin false m e) nan a c b h k = absurd k
-below_whole (fin false m e) (inf t) a c b h k = absurd k
-below_whole (fin false m e) (fin true n d) a c b h k = absurd (true≢false k.0)
-below_whole (fin false m e) (fin false n d) a c b h k =
-    let is : n * up d ≡ b * down d = sym (mul-one (n * up d)) ∙ k.1 in
-    ap (λ (z : ℕ). ltb (m * up e * down d) (z * down e)) is
-    ∙ ap (λ (z : ℕ). ltb (m * up e * down d) z) (mul_right_comm b (down d) (down e))
-    ∙ scale_ltb (m * up e) (b * down e) (down d) (down_pos d)
 
 -- θ·n for a threshold in range: no variables at all, or some
 times_none : (θ : Float) → HasValue (times θ 0 1) false (num θ * 0) (den θ * 1)
@@ -115,7 +93,8 @@ exceeding n θ k r h i =
       number = value_finite t (num t) (den t) x.value;
       greater =
           ap (λ (z : Float). lt z (whole k)) x.rounded
-          ∙ below_whole t (whole k) (num t) (den t) k x.value (whole_value k i);
+          ∙ lt_at t (whole k) (num t) (den t) k 1 (den_pos t) (lit< tt) x.value (whole_value k i)
+          ∙ ap (λ (z : ℕ). ltb z (k * den t)) (mul-one (num t));
     }
 
 -- decisions and set variables that 16 bits hold have a product that a double holds

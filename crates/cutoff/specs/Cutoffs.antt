@@ -1,9 +1,11 @@
--- The cutoff: which ones are allowed, how easing moves one, when a branch is cut, and how one is kept as two numbers.
-use Rattle.std.specs.Prelude.{ℕ, ◌*◌, Bool, true, false, cond, ◌&&◌, pos, Ok, Err, Result, ◌==◌, from_bits, nat_le, to_bits, Float}
+-- The cutoff: which ones are allowed, how easing moves one, when a branch is cut, and how one is kept as its kind and a number.
+use Rattle.std.specs.Prelude.{ℕ, ◌*◌, Bool, true, false, cond, pos, Ok, Err, Result, from_bits, nat_le, to_bits, Float}
 use Rattle.std.specs.Float.{binary64}
 use Rattle.std.specs.Float.Ieee.{mul, lt, of_int}
 use Rattle.cutoff.specs.declared.kinds.Cutoff.{Cutoff}
 use Rattle.cutoff.specs.declared.kinds.Cutoff.TheVariants.{Never, Depth, Share, Easing}
+use Rattle.cutoff.specs.declared.keeping.Kind.{Kind}
+use Rattle.cutoff.specs.declared.keeping.Kind.TheVariants as kind
 use Rattle.cutoff.specs.declared.kinds.Refusal.{Refusal}
 use Rattle.cutoff.specs.declared.kinds.Refusal.TheVariants.{OutOfRange}
 use Rattle.cutoff.specs.Theta.{in_range, scaled}
@@ -40,12 +42,12 @@ cuts_at (Depth d) n decisions set = nat_le d decisions
 cuts_at (Share θ) n decisions set = exceeds n θ (decisions * set)
 cuts_at (Easing θ) n decisions set = exceeds n θ (decisions * set)
 
--- as two numbers: the kind, and with it nothing (0), the depth, or the threshold's bits
-abbrev pub kind_of : Cutoff → ℕ
-kind_of Never = 0
-kind_of (Depth d) = 1
-kind_of (Share θ) = 2
-kind_of (Easing θ) = 3
+-- as a kind and a number: with it nothing (0), the depth, or the threshold's bits
+abbrev pub kind_of : Cutoff → Kind
+kind_of Never = kind.Never
+kind_of (Depth d) = kind.Depth
+kind_of (Share θ) = kind.Share
+kind_of (Easing θ) = kind.Easing
 
 abbrev pub bits_of : Cutoff → ℕ
 bits_of Never = 0
@@ -53,11 +55,9 @@ bits_of (Depth d) = d
 bits_of (Share θ) = to_bits binary64 θ
 bits_of (Easing θ) = to_bits binary64 θ
 
--- the cutoff that two numbers stand for
-abbrev pub cutoff_of : ℕ → ℕ → Cutoff
-cutoff_of kind bits =
-    cond (kind == 0) Never (cond (kind == 1) (Depth bits) (cond (kind == 2) (Share (from_bits binary64 bits)) (Easing (from_bits binary64 bits))))
-
--- two numbers that are a kind, and what an allowed cutoff of that kind is kept as: so never a NaN's bits
-abbrev pub sound : ℕ → ℕ → Bool
-sound kind bits = nat_le kind 3 && allowed (cutoff_of kind bits)
+-- the cutoff that a kind and a number stand for
+abbrev pub cutoff_of : Kind → ℕ → Cutoff
+cutoff_of kind.Never bits = Never
+cutoff_of kind.Depth bits = Depth bits
+cutoff_of kind.Share bits = Share (from_bits binary64 bits)
+cutoff_of kind.Easing bits = Easing (from_bits binary64 bits)

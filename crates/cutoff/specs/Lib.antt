@@ -1,3 +1,4 @@
 pub mod Theta
 pub mod Cutoffs
 pub mod Laws
+pub mod Keeping

@@ -5,5 +5,5 @@ pub mod keeping;
 pub mod kinds;
 mod theta;
 
-pub use keeping::Kept;
+pub use keeping::{Kept, Kind};
 pub use kinds::{Cutoff, Refusal};

@@ -1,34 +1,27 @@
-use cutoff::{Cutoff, Kept};
+use Move::{Fall, Rise};
+use cutoff::{Cutoff, Kept, Kind, Refusal};
 
-// The number that a cutoff is refused with, or 0.
-fn answer(cutoff: Cutoff) -> u32 {
-    match cutoff.check() {
-        Ok(()) => 0,
-        Err(refusal) => refusal.number(),
-    }
-}
-
-// The two numbers that a cutoff is kept as, and whether they are the same once it came back.
-fn kept(cutoff: Cutoff) -> (u8, u64, bool) {
-    if cutoff.check().is_err() {
-        return (9, 0, false);
-    }
+// What a cutoff is kept as, if it is allowed and still the same once it came back.
+fn kept(cutoff: Cutoff) -> Option<(Kind, u64)> {
+    cutoff.check().ok()?;
     let first = Kept::keep(cutoff);
     let again = Kept::keep(first.cutoff());
-    (
-        first.kind,
-        first.bits,
-        first.kind == again.kind && first.bits == again.bits,
-    )
+    (first == again).then_some((first.kind, first.bits))
 }
 
-// The cutoff moved by each letter in turn.
-fn moved(mut cutoff: Cutoff, moves: &[u8]) -> Cutoff {
-    for &letter in moves {
-        if letter == b'r' {
-            cutoff.rise();
-        } else {
-            cutoff.fall();
+// How a threshold moves under easing.
+#[derive(Clone, Copy)]
+enum Move {
+    Rise,
+    Fall,
+}
+
+// The cutoff after each move in turn.
+fn moved(mut cutoff: Cutoff, moves: &[Move]) -> Cutoff {
+    for m in moves {
+        match m {
+            Move::Rise => cutoff.rise(),
+            Move::Fall => cutoff.fall(),
         }
     }
     cutoff
@@ -75,71 +68,151 @@ fn branches_are_cut_or_not(rt: HostRuntime) {
     }
 }
 
-// A cutoff and the answer to it.
-const RANGES: [(Cutoff, u32); 20] = [
-    (Cutoff::Never, 0),
-    (Cutoff::Depth(0), 0),
-    (Cutoff::Depth(2048), 0),
-    (Cutoff::Depth(2049), 21),
-    (Cutoff::Depth(65535), 21),
-    (Cutoff::Share(0.001), 0),
-    (Cutoff::Share(0.0009999999999999998), 21),
-    (Cutoff::Share(1000000000.0), 0),
-    (Cutoff::Share(1000000000.0000001), 21),
-    (Cutoff::Share(0.0), 21),
-    (Cutoff::Share(-1.0), 21),
-    (Cutoff::Share(0.0 / 0.0), 21),
-    (Cutoff::Share(1.0 / 0.0), 21),
-    (Cutoff::Share(-1.0 / 0.0), 21),
-    (Cutoff::Easing(0.001), 0),
-    (Cutoff::Easing(0.0009999999999999998), 21),
-    (Cutoff::Easing(1000000000.0), 0),
-    (Cutoff::Easing(1000000000.0000001), 21),
-    (Cutoff::Easing(0.0 / 0.0), 21),
-    (Cutoff::Easing(-0.5), 21),
+// A cutoff, and the number that it is refused with.
+const RANGES: [(Cutoff, Option<u32>); 20] = [
+    (Cutoff::Never, None),
+    (Cutoff::Depth(0), None),
+    (Cutoff::Depth(2048), None),
+    (Cutoff::Depth(2049), Some(21)),
+    (Cutoff::Depth(65535), Some(21)),
+    (Cutoff::Share(0.001), None),
+    (Cutoff::Share(0.0009999999999999998), Some(21)),
+    (Cutoff::Share(1000000000.0), None),
+    (Cutoff::Share(1000000000.0000001), Some(21)),
+    (Cutoff::Share(0.0), Some(21)),
+    (Cutoff::Share(-1.0), Some(21)),
+    (Cutoff::Share(0.0 / 0.0), Some(21)),
+    (Cutoff::Share(1.0 / 0.0), Some(21)),
+    (Cutoff::Share(-1.0 / 0.0), Some(21)),
+    (Cutoff::Easing(0.001), None),
+    (Cutoff::Easing(0.0009999999999999998), Some(21)),
+    (Cutoff::Easing(1000000000.0), None),
+    (Cutoff::Easing(1000000000.0000001), Some(21)),
+    (Cutoff::Easing(0.0 / 0.0), Some(21)),
+    (Cutoff::Easing(-0.5), Some(21)),
 ];
 
 #[test]
 fn cutoffs_out_of_range_are_refused(rt: HostRuntime) {
     for &(cutoff, number) in &RANGES {
-        assert_eq!(rt; answer(cutoff), number);
+        assert_eq!(rt; cutoff.check().err().map(Refusal::number), number);
     }
 }
 
-// A cutoff, its moves (r rises, f falls), and the kind and the bits that are kept then.
-const MOVES: [(Cutoff, &[u8], u8, u64); 24] = [
-    (Cutoff::Never, b"", 0, 0),
-    (Cutoff::Never, b"rf", 0, 0),
-    (Cutoff::Depth(7), b"", 1, 7),
-    (Cutoff::Depth(2048), b"rrf", 1, 2048),
-    (Cutoff::Share(0.5), b"", 2, 0x3fe0000000000000),
-    (Cutoff::Share(0.5), b"r", 2, 0x3fe0000000000000),
-    (Cutoff::Share(0.5), b"f", 2, 0x3fe0000000000000),
-    (Cutoff::Easing(0.5), b"", 3, 0x3fe0000000000000),
-    (Cutoff::Easing(1.0), b"r", 3, 0x3ff0cccccccccccd),
-    (Cutoff::Easing(1.0), b"f", 3, 0x3fe6666666666666),
+// A cutoff, its moves, and the kind and the bits that are kept then.
+const MOVES: [(Cutoff, &[Move], Kind, u64); 24] = [
+    (Cutoff::Never, &[], Kind::Never, 0),
+    (Cutoff::Never, &[Rise, Fall], Kind::Never, 0),
+    (Cutoff::Depth(7), &[], Kind::Depth, 7),
+    (Cutoff::Depth(2048), &[Rise, Rise, Fall], Kind::Depth, 2048),
+    (Cutoff::Share(0.5), &[], Kind::Share, 0x3fe0000000000000),
+    (Cutoff::Share(0.5), &[Rise], Kind::Share, 0x3fe0000000000000),
+    (Cutoff::Share(0.5), &[Fall], Kind::Share, 0x3fe0000000000000),
+    (Cutoff::Easing(0.5), &[], Kind::Easing, 0x3fe0000000000000),
+    (
+        Cutoff::Easing(1.0),
+        &[Rise],
+        Kind::Easing,
+        0x3ff0cccccccccccd,
+    ),
+    (
+        Cutoff::Easing(1.0),
+        &[Fall],
+        Kind::Easing,
+        0x3fe6666666666666,
+    ),
     // the order of two moves can be seen in the last bit
-    (Cutoff::Easing(2.5), b"rf", 3, 0x3ffd666666666666),
-    (Cutoff::Easing(2.5), b"fr", 3, 0x3ffd666666666667),
-    (Cutoff::Easing(0.3), b"rrr", 3, 0x3fd639f559b3d07e),
+    (
+        Cutoff::Easing(2.5),
+        &[Rise, Fall],
+        Kind::Easing,
+        0x3ffd666666666666,
+    ),
+    (
+        Cutoff::Easing(2.5),
+        &[Fall, Rise],
+        Kind::Easing,
+        0x3ffd666666666667,
+    ),
+    (
+        Cutoff::Easing(0.3),
+        &[Rise, Rise, Rise],
+        Kind::Easing,
+        0x3fd639f559b3d07e,
+    ),
     // at the lower end, and just above it
-    (Cutoff::Easing(0.001), b"f", 3, 0x3f50624dd2f1a9fc),
-    (Cutoff::Easing(0.001), b"ff", 3, 0x3f50624dd2f1a9fc),
-    (Cutoff::Easing(0.001), b"r", 3, 0x3f513404ea4a8c16),
-    (Cutoff::Easing(0.001), b"fr", 3, 0x3f513404ea4a8c16),
-    (Cutoff::Easing(0.0014), b"f", 3, 0x3f50624dd2f1a9fc),
-    (Cutoff::Easing(0.00143), b"f", 3, 0x3f50667f90d9d777),
+    (
+        Cutoff::Easing(0.001),
+        &[Fall],
+        Kind::Easing,
+        0x3f50624dd2f1a9fc,
+    ),
+    (
+        Cutoff::Easing(0.001),
+        &[Fall, Fall],
+        Kind::Easing,
+        0x3f50624dd2f1a9fc,
+    ),
+    (
+        Cutoff::Easing(0.001),
+        &[Rise],
+        Kind::Easing,
+        0x3f513404ea4a8c16,
+    ),
+    (
+        Cutoff::Easing(0.001),
+        &[Fall, Rise],
+        Kind::Easing,
+        0x3f513404ea4a8c16,
+    ),
+    (
+        Cutoff::Easing(0.0014),
+        &[Fall],
+        Kind::Easing,
+        0x3f50624dd2f1a9fc,
+    ),
+    (
+        Cutoff::Easing(0.00143),
+        &[Fall],
+        Kind::Easing,
+        0x3f50667f90d9d777,
+    ),
     // at the upper end, and just below it
-    (Cutoff::Easing(1000000000.0), b"r", 3, 0x41cdcd6500000000),
-    (Cutoff::Easing(1000000000.0), b"f", 3, 0x41c4dc9380000000),
-    (Cutoff::Easing(1000000000.0), b"rf", 3, 0x41c4dc9380000000),
-    (Cutoff::Easing(960000000.0), b"r", 3, 0x41cdcd6500000000),
-    (Cutoff::Easing(950000000.0), b"r", 3, 0x41cdba5230000000),
+    (
+        Cutoff::Easing(1000000000.0),
+        &[Rise],
+        Kind::Easing,
+        0x41cdcd6500000000,
+    ),
+    (
+        Cutoff::Easing(1000000000.0),
+        &[Fall],
+        Kind::Easing,
+        0x41c4dc9380000000,
+    ),
+    (
+        Cutoff::Easing(1000000000.0),
+        &[Rise, Fall],
+        Kind::Easing,
+        0x41c4dc9380000000,
+    ),
+    (
+        Cutoff::Easing(960000000.0),
+        &[Rise],
+        Kind::Easing,
+        0x41cdcd6500000000,
+    ),
+    (
+        Cutoff::Easing(950000000.0),
+        &[Rise],
+        Kind::Easing,
+        0x41cdba5230000000,
+    ),
 ];
 
 #[test]
 fn thresholds_move_to_these_bits(rt: HostRuntime) {
     for &(cutoff, moves, kind, bits) in &MOVES {
-        assert!(rt; kept(moved(cutoff, moves)) == (kind, bits, true));
+        assert!(rt; kept(moved(cutoff, moves)) == Some((kind, bits)));
     }
 }

@@ -5,70 +5,66 @@ ghost use Rattle.holder_tests.specs.Agree.{Agree};
 
 use book::{Book, Word};
 use holder::Loans;
+use std::alloc::Global;
 
-// A book of three cubes that wait.
-pub fn three_cubes() -> Book
-    ensures { Agree (marks_of result) [] }
-{
-    let mut book = Book::new();
-    let _ = book.enter();
-    let _ = book.enter();
-    let _ = book.enter();
-    book
+// A book, and a loan of each of its cubes that is out.
+pub struct Office {
+    pub book: Book,
+    pub loans: Loans,
+    ghost agree: { Agree (marks_of book) (loans_of loans) },
 }
 
-// Borrows a cube and keeps its loan; false where that is refused.
-pub fn lend(book: &mut Book, loans: &mut Loans, cube: u16) -> bool
-    ensures { Agree (marks_of book.old) (loans_of loans.old) → Agree (marks_of book.new) (loans_of loans.new) }
-{
-    let Ok(()) = loans.reserve() else {
-        return false;
-    };
-    match book.lend(cube) {
-        Err(_) => false,
-        Ok(loan) => {
-            loans.keep(loan);
-            true
+impl Office {
+    // Three cubes that wait.
+    pub fn new(heap: Global) -> Office {
+        let mut book = Book::new();
+        let _ = book.enter();
+        let _ = book.enter();
+        let _ = book.enter();
+        Office {
+            book,
+            loans: Loans::new(heap),
         }
     }
-}
 
-// Gives a cube back; false where no loan of it is held, or where the book refuses it.
-pub fn give_back(book: &mut Book, loans: &mut Loans, cube: u32) -> bool
-    ensures { Agree (marks_of book.old) (loans_of loans.old) → Agree (marks_of book.new) (loans_of loans.new) }
-{
-    let Some(loan) = loans.take(cube) else {
-        return false;
-    };
-    match book.settle(loan, Word::Back) {
-        Ok(_spent) => true,
-        Err((_, loan)) => {
-            loans.keep(loan);
-            false
+    // Borrows a cube and keeps its loan; false where that is refused.
+    // Stays: a bool, since the tests ask no more, and memory and the book refuse with two types.
+    pub fn lend(&mut self, cube: u16) -> bool {
+        let Ok(()) = self.loans.reserve() else {
+            return false;
+        };
+        match self.book.lend(cube) {
+            Err(_) => false,
+            Ok(loan) => {
+                self.loans.keep(loan);
+                true
+            }
         }
     }
-}
 
-// Gives the cube of the newest loan back, and tells which it was.
-pub fn give_back_newest(book: &mut Book, loans: &mut Loans) -> Option<u16>
-    requires { Agree (marks_of book.old) (loans_of loans.old) }
-    ensures agree { Agree (marks_of book.new) (loans_of loans.new) }
-    ensures fewer { MatchOption result (loans_of loans.new ≡ []) (λ _. length (loans_of loans.new) + 1 ≡ length (loans_of loans.old)) }
-{
-    let Some(loan) = loans.pop() else {
-        return None;
-    };
-    let cube = loan.cube();
-    let Ok(_spent) = book.settle(loan, Word::Back) else {
-        unreachable()
-    };
-    Some(cube)
-}
+    // Gives a cube back; false where no loan of it is held.
+    pub fn give_back(&mut self, cube: u32) -> bool {
+        let Some(loan) = self.loans.take(cube) else {
+            return false;
+        };
+        let _spent = self.book.settle(loan, Word::Back).unwrap();
+        true
+    }
 
-// Gives every cube back, and ends the collection.
-pub fn give_all_back(book: &mut Book, mut loans: Loans)
-    requires { Agree (marks_of book.old) (loans_of loans) }
-{
-    while let Some(_) = give_back_newest(book, &mut loans) {}
-    loans.close();
+    // Gives the cube of the newest loan back, and tells which it was.
+    pub fn give_back_newest(&mut self) -> Option<u16>
+        ensures { MatchOption result (loans_of self.new.loans ≡ []) (λ _. length (loans_of self.new.loans) + 1 ≡ length (loans_of self.old.loans)) }
+    {
+        let loan = self.loans.pop()?;
+        let spent = self.book.settle(loan, Word::Back).unwrap();
+        Some(spent.cube())
+    }
+
+    // Gives every cube back, and ends the collection.
+    pub fn close(mut self) -> Book {
+        while self.give_back_newest().is_some() {}
+        let Office { book, loans } = self;
+        loans.close();
+        book
+    }
 }

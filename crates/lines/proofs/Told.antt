@@ -50,8 +50,8 @@ same_signed y z p q e = signed_decimal_injective y z (omega arith) (omega arith)
 -- literals after spaces, up to the line feed
 spaced_told : (ls ks : List ℤ) (us vs : List ℕ) → AllByRecursion Narrow ls → AllByRecursion Narrow ks → spaced ls ++ 10 ∷ us ≡ spaced ks ++ 10 ∷ vs → (ls ≡ ks) × (us ≡ vs)
 spaced_told [] [] us vs p q e = (refl, cc)
-spaced_told [] (k ∷ ks) us vs p q e = absurd (let z : ◌≡◌ {A = ℕ} 10 32 = cc in omega arith)
-spaced_told (l ∷ ls) [] us vs p q e = absurd (let z : ◌≡◌ {A = ℕ} 32 10 = cc in omega arith)
+spaced_told [] (k ∷ ks) us vs p q e = cc
+spaced_told (l ∷ ls) [] us vs p q e = cc
 spaced_told (l ∷ ls) (k ∷ ks) us vs p q e =
     let f : (signed_decimal l ++ spaced ls) ++ 10 ∷ us ≡ (signed_decimal k ++ spaced ks) ++ 10 ∷ vs = cc in
     let g : signed_decimal l ++ (spaced ls ++ 10 ∷ us) ≡ signed_decimal k ++ (spaced ks ++ 10 ∷ vs) =
@@ -93,10 +93,10 @@ line_told k n ls ks us vs p q e =
 
 lines_told : (c l : ℕ) (es fs : List Entry) → AllByRecursion NarrowEntry es → AllByRecursion NarrowEntry fs → lines c l es ≡ lines c l fs → es ≡ fs
 lines_told c l [] [] p q e = refl
-lines_told c l [] (cube ks ∷ fs) p q e = absurd (let z : ◌≡◌ {A = ℕ} 0 1 = cc in omega arith)
-lines_told c l [] (learnt ks ∷ fs) p q e = absurd (let z : ◌≡◌ {A = ℕ} 0 1 = cc in omega arith)
-lines_told c l (cube ls ∷ es) [] p q e = absurd (let z : ◌≡◌ {A = ℕ} 0 1 = cc in omega arith)
-lines_told c l (learnt ls ∷ es) [] p q e = absurd (let z : ◌≡◌ {A = ℕ} 0 1 = cc in omega arith)
+lines_told c l [] (cube ks ∷ fs) p q e = cc
+lines_told c l [] (learnt ks ∷ fs) p q e = cc
+lines_told c l (cube ls ∷ es) [] p q e = cc
+lines_told c l (learnt ls ∷ es) [] p q e = cc
 lines_told c l (cube ls ∷ es) (learnt ks ∷ fs) p q e = absurd (let z : ◌≡◌ {A = ℕ} 67 76 = cc in omega arith)
 lines_told c l (learnt ls ∷ es) (cube ks ∷ fs) p q e = absurd (let z : ◌≡◌ {A = ℕ} 76 67 = cc in omega arith)
 lines_told c l (cube ls ∷ es) (cube ks ∷ fs) p q e =

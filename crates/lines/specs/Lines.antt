@@ -1,10 +1,11 @@
 -- Entries as text: a line for each.
-use Rattle.std.specs.Prelude.{ℕ, ◌+◌, ◌^◌, ◌<◌, List, [], ◌∷◌, ◌++◌, ℤ, decimal}
+use Rattle.std.specs.Prelude.{ℕ, ◌+◌, ◌^◌, ◌<◌, List, [], ◌∷◌, ◌++◌, ℤ, decimal, flat_map}
 use Rattle.std.specs.Int.Signed.{mag}
 use Rattle.std.specs.Fmt.{signed_decimal}
 use Rattle.std.specs.List.{AllByRecursion}
 use Rattle.outlet.specs.declared.kinds.Kind.{Kind}
 use Rattle.outlet.specs.declared.kinds.Kind.TheVariants.{Cube, Learnt}
+use Rattle.lines.specs.declared.write.Line.{Line}
 use Rattle.outlet.specs.Entries.{Entry, cube, learnt, literals}
 
 -- `C` or `L`
@@ -14,8 +15,7 @@ letter Learnt = 76
 
 -- literals in decimal, each after a space,
 abbrev pub spaced : List ℤ → List ℕ
-spaced [] = []
-spaced (l ∷ ls) = 32 ∷ (signed_decimal l ++ spaced ls)
+spaced = flat_map (λ l. 32 ∷ signed_decimal l)
 
 -- or parted by single spaces
 abbrev pub parted : List ℤ → List ℕ
@@ -25,6 +25,9 @@ parted (l ∷ ls) = signed_decimal l ++ spaced ls
 -- a letter, the number within the kind and the literals, commas between the three, and a line feed
 abbrev pub line : Kind → ℕ → List ℤ → List ℕ
 line k n ls = letter k ∷ 44 ∷ (decimal n ++ (44 ∷ (parted ls ++ 10 ∷ [])))
+
+abbrev pub line_of : Line → List ℕ
+line_of l = line l.kind l.number l.lits.now
 
 -- the lines of entries that come after c cubes and l learnt clauses
 abbrev pub lines : ℕ → ℕ → List Entry → List ℕ

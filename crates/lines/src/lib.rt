@@ -1,8 +1,7 @@
 //! Entries as lines of text, written into lent bytes.
 #![tactic(auto)]
 
-pub mod widths;
-pub mod write;
+mod sinks;
+mod write;
 
-pub use widths::line_fits;
-pub use write::put_line;
+pub use write::Line;

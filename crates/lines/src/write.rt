@@ -1,76 +1,48 @@
-// Each function writes its piece from a place on and answers the place behind it.
-ghost use Rattle.std.specs.Prelude.{◌≡◌, ℕ, ◌+◌, ◌<◌, ◌≤◌, List, [], ◌∷◌, ◌++◌, length, decimal};
+// A line is written once, for every sink: onto a stack, or to see whether it fits.
+ghost use Rattle.std.specs.Prelude.{◌≡◌, ◌≤◌, List, length, OnOk, nat_le};
 ghost use Rattle.std.specs.Fmt.{signed_decimal};
 ghost use Rattle.std.specs.List.{AllByRecursion};
-ghost use Rattle.outlet.specs.Memory.{laid};
-ghost use Rattle.lines.specs.Lines.{spaced, parted, line, letter, Narrow};
+ghost use Rattle.stack.specs.Items.{spares};
+ghost use Rattle.outlet.specs.Memory.{Appended};
+ghost use Rattle.lines.specs.Lines.{spaced, parted, line_of, letter, Narrow};
+ghost use Rattle.lines.specs.Sinks.{Takes};
 
-use outlet::Kind;
+use crate::sinks::{Room, Sink};
+use itoa::Buffer;
+use outlet::{Kind, Refusal};
+use stack::Stack;
 
-fn put_byte(bytes: &mut [u8], at: usize, b: u8) -> usize
-    requires { at < length bytes.old }
-    ensures end { result ≡ at + 1 }
-    ensures memory { bytes.new ≡ laid bytes.old at (b ∷ []) }
+fn write_literal<S: Sink>(out: &mut S, lit: i32) -> Result<(), Refusal>
+    ensures { Takes S.took S.room out.old (signed_decimal lit) out.new result }
 {
-    bytes[at] = b;
-    at + 1
+    out.take(Buffer::new().format(lit).as_bytes())
 }
 
-fn put_decimal(bytes: &mut [u8], at: usize, n: u64) -> usize
-    requires { at + length (decimal n) ≤ length bytes.old }
-    ensures end { result ≡ at + length (decimal n) }
-    ensures memory { bytes.new ≡ laid bytes.old at (decimal n) }
+fn write_spaced<S: Sink>(out: &mut S, lits: &[i32]) -> Result<(), Refusal>
+    ensures text { Takes S.took S.room out.old (spaced lits.now) out.new result }
+    ensures narrow { OnOk result (AllByRecursion Narrow lits.now) }
 {
-    if n < 10 {
-        put_byte(bytes, at, 48 + n as u8)
-    } else {
-        let k = put_decimal(bytes, at, n / 10);
-        put_byte(bytes, k, 48 + (n % 10) as u8)
+    for lit in lits {
+        out.take(b" ")?;
+        write_literal(out, *lit)?;
     }
+    Ok(())
 }
 
-fn put_signed(bytes: &mut [u8], at: usize, z: i32) -> usize
-    requires { at + length (signed_decimal z) ≤ length bytes.old }
-    ensures end { result ≡ at + length (signed_decimal z) }
-    ensures memory { bytes.new ≡ laid bytes.old at (signed_decimal z) }
-{
-    if z < 0 {
-        let k = put_byte(bytes, at, b'-');
-        put_decimal(bytes, k, z.unsigned_abs() as u64)
-    } else {
-        put_decimal(bytes, at, z as u64)
-    }
-}
-
-fn put_spaced(bytes: &mut [u8], at: usize, lits: &[i32]) -> usize
-    requires { at + length (spaced lits.now) ≤ length bytes.old }
-    ensures end { result ≡ at + length (spaced lits.now) }
-    ensures memory { bytes.new ≡ laid bytes.old at (spaced lits.now) }
-    ensures narrow { AllByRecursion Narrow lits.now }
-{
-    let mut k = at;
-    for l in lits {
-        k = put_byte(bytes, k, b' ');
-        k = put_signed(bytes, k, *l);
-    }
-    k
-}
-
-fn put_parted(bytes: &mut [u8], at: usize, lits: &[i32]) -> usize
-    requires { at + length (parted lits.now) ≤ length bytes.old }
-    ensures end { result ≡ at + length (parted lits.now) }
-    ensures memory { bytes.new ≡ laid bytes.old at (parted lits.now) }
-    ensures narrow { AllByRecursion Narrow lits.now }
+fn write_parted<S: Sink>(out: &mut S, lits: &[i32]) -> Result<(), Refusal>
+    ensures text { Takes S.took S.room out.old (parted lits.now) out.new result }
+    ensures narrow { OnOk result (AllByRecursion Narrow lits.now) }
 {
     match lits {
-        [] => at,
+        [] => Ok(()),
         [first, rest @ ..] => {
-            let k = put_signed(bytes, at, *first);
-            put_spaced(bytes, k, rest)
+            write_literal(out, *first)?;
+            write_spaced(out, rest)
         }
     }
 }
 
+// Stays: `From<Kind>` would have to stand in crate outlet, which knows no text.
 fn letter_of(kind: Kind) -> u8
     ensures { result ≡ letter kind }
 {
@@ -80,16 +52,39 @@ fn letter_of(kind: Kind) -> u8
     }
 }
 
-pub fn put_line(bytes: &mut [u8], at: usize, kind: Kind, n: u64, lits: &[i32]) -> usize
-    requires { at + length (line kind n lits.now) ≤ length bytes.old }
-    ensures end { result ≡ at + length (line kind n lits.now) }
-    ensures memory { bytes.new ≡ laid bytes.old at (line kind n lits.now) }
-    ensures narrow { AllByRecursion Narrow lits.now }
-{
-    let a = put_byte(bytes, at, letter_of(kind));
-    let b = put_byte(bytes, a, b',');
-    let c = put_decimal(bytes, b, n);
-    let d = put_byte(bytes, c, b',');
-    let e = put_parted(bytes, d, lits);
-    put_byte(bytes, e, b'\n')
+// The line of an entry: its kind, its number within the kind and its literals.
+#[derive(Clone, Copy)]
+pub struct Line<'a> {
+    pub kind: Kind,
+    pub number: u64,
+    pub lits: &'a [i32],
+}
+
+impl<'a> Line<'a> {
+    fn write<S: Sink>(&self, out: &mut S) -> Result<(), Refusal>
+        ensures text { Takes S.took S.room out.old (line_of self.now) out.new result }
+        ensures narrow { OnOk result (AllByRecursion Narrow self.now.lits.now) }
+    {
+        out.take(&[letter_of(self.kind), b','])?;
+        out.take(Buffer::new().format(self.number).as_bytes())?;
+        out.take(b",")?;
+        write_parted(out, self.lits)?;
+        out.take(b"\n")
+    }
+
+    // Whether it takes at most `room` bytes, its line feed with it.
+    pub fn fits(&self, room: usize) -> bool
+        ensures { result ≡ nat_le (length (line_of self.now)) room }
+    {
+        self.write(&mut Room { left: room }).is_ok()
+    }
+
+    // Writes it where there is room.
+    pub fn put(&self, out: &mut Stack<u8>)
+        requires { length (line_of self.now) ≤ length (spares out.old) }
+        ensures line { Appended out.old (line_of self.now) out.new }
+        ensures narrow { AllByRecursion Narrow self.now.lits.now }
+    {
+        let _ = self.write(out);
+    }
 }

@@ -1,84 +1,63 @@
 use book::{Book, Mark, Refusal, Word};
 
-// The number that a lending is refused with, or 0; the cube is given back.
-fn lend(book: &mut Book, cube: u16) -> u32 {
-    match book.lend(cube) {
-        Err(refusal) => refusal.number(),
-        Ok(loan) => {
-            let Ok(_spent) = book.settle(loan, Word::Back) else {
-                unreachable()
-            };
-            0
-        }
-    }
+// Lends the cube, and settles it by that word.
+fn lend(book: &mut Book, cube: u16, word: Word) -> Result<(), Refusal> {
+    let loan = book.lend(cube)?;
+    let _spent = book.settle(loan, word).unwrap();
+    Ok(())
 }
 
-// The same while the cube is out already.
-fn lend_while_out(book: &mut Book, cube: u16) -> u32 {
-    let Ok(loan) = book.lend(cube) else {
-        return 0;
-    };
-    let Err(refusal) = book.lend(cube) else {
-        unreachable()
-    };
-    let Ok(_spent) = book.settle(loan, Word::Back) else {
-        unreachable()
-    };
-    refusal.number()
+// What refuses a cube that is out already; none where it can't be lent at first.
+fn lend_while_out(book: &mut Book, cube: u16) -> Option<Refusal> {
+    let loan = book.lend(cube).ok()?;
+    let refusal = book.lend(cube).unwrap_err();
+    let _spent = book.settle(loan, Word::Back).unwrap();
+    Some(refusal)
 }
 
-fn close(book: &mut Book, cube: u16) -> u32 {
-    match book.lend(cube) {
-        Err(refusal) => refusal.number(),
-        Ok(loan) => {
-            let Ok(_spent) = book.settle(loan, Word::Closed) else {
-                unreachable()
-            };
-            0
-        }
-    }
-}
-
-// The number that another book refuses the loan with; the loan comes back and is settled at home.
-fn settle_elsewhere(home: &mut Book, other: &mut Book, cube: u16) -> u32 {
-    let Ok(loan) = home.lend(cube) else {
-        return 0;
-    };
+// What another book refuses the loan with; the loan comes back and is settled at home.
+fn settle_elsewhere(home: &mut Book, other: &mut Book, cube: u16) -> Option<Refusal> {
+    let loan = home.lend(cube).ok()?;
     match other.settle(loan, Word::Closed) {
-        Ok(_spent) => 0,
+        Ok(_spent) => None,
         Err((refusal, loan)) => {
-            let Ok(_spent) = home.settle(loan, Word::Back) else {
-                unreachable()
-            };
-            refusal.number()
+            let _spent = home.settle(loan, Word::Back).unwrap();
+            Some(refusal)
         }
     }
 }
 
 // How many of `count` new cubes got the next number in turn.
-fn enter(book: &mut Book, count: u16) -> u16 {
-    let mut right = 0u16;
-    for n in 0..count {
-        if book.enter() == Ok(n.wrapping_add(1)) {
-            right = right.wrapping_add(1);
-        }
-    }
-    right
+fn enter(book: &mut Book, count: u16) -> usize {
+    (1..=count).filter(|&n| book.enter() == Ok(n)).count()
+}
+
+#[test]
+fn refusals_have_these_numbers(rt: HostRuntime) {
+    let refusals = [Refusal::Full, Refusal::NotWaiting, Refusal::NotOut];
+    assert!(rt; refusals.map(Refusal::number) == [23, 26, 27]);
 }
 
 #[test]
 fn cubes_are_lent_by_number(rt: HostRuntime) {
     let mut book = Book::new();
-    let unknown = lend(&mut book, 1);
+    let unknown = lend(&mut book, 1, Word::Back);
     let entered = enter(&mut book, 2);
     let lent = [
-        lend(&mut book, 0),
-        lend(&mut book, 1),
-        lend(&mut book, 3),
-        lend_while_out(&mut book, 2),
+        lend(&mut book, 0, Word::Back),
+        lend(&mut book, 1, Word::Back),
+        lend(&mut book, 3, Word::Back),
     ];
-    let closed = [close(&mut book, 2), lend(&mut book, 2)];
-    assert!(rt; unknown == 26 && entered == 2 && lent == [26, 0, 26, 26] && closed == [0, 26]);
+    let while_out = lend_while_out(&mut book, 2);
+    let closed = [
+        lend(&mut book, 2, Word::Closed),
+        lend(&mut book, 2, Word::Back),
+    ];
+    assert!(rt; unknown == Err(Refusal::NotWaiting) && entered == 2);
+    assert!(rt; lent == [Err(Refusal::NotWaiting), Ok(()), Err(Refusal::NotWaiting)]);
+    assert!(rt;
+        while_out == Some(Refusal::NotWaiting) && closed == [Ok(()), Err(Refusal::NotWaiting)]
+    );
     let states = [book.state(0), book.state(1), book.state(2), book.state(3)];
     assert!(rt; states == [None, Some(Mark::Waiting), Some(Mark::Closed), None]);
 }
@@ -91,7 +70,8 @@ fn a_loan_is_refused_by_another_book(rt: HostRuntime) {
     let unknown = settle_elsewhere(&mut home, &mut other, 1);
     let also = enter(&mut other, 1);
     let waiting = settle_elsewhere(&mut home, &mut other, 1);
-    assert!(rt; entered == 1 && also == 1 && unknown == 27 && waiting == 27);
+    assert!(rt; entered == 1 && also == 1);
+    assert!(rt; unknown == Some(Refusal::NotOut) && waiting == Some(Refusal::NotOut));
     assert!(rt; home.state(1) == Some(Mark::Waiting) && other.state(1) == Some(Mark::Waiting));
 }
 
@@ -101,15 +81,14 @@ fn the_book_has_4096_entries(rt: HostRuntime) {
     assert!(rt; enter(&mut book, 4095) == 4095 && !book.is_full());
     assert!(rt; book.enter() == Ok(4096) && book.is_full());
     assert!(rt; book.enter() == Err(Refusal::Full) && Refusal::Full.number() == 23);
-    let lent = [
-        close(&mut book, 4096),
-        lend(&mut book, 4097),
-        lend_while_out(&mut book, 4095),
-    ];
-    let tallies = [
-        book.tally(Mark::Waiting),
-        book.tally(Mark::Out),
-        book.tally(Mark::Closed),
-    ];
-    assert!(rt; lent == [0, 26, 26] && tallies == [4095, 0, 1]);
+    let closed = lend(&mut book, 4096, Word::Closed);
+    let unknown = lend(&mut book, 4097, Word::Back);
+    let while_out = lend_while_out(&mut book, 4095);
+    let tallies = [Mark::Waiting, Mark::Out, Mark::Closed].map(|mark| book.tally(mark));
+    assert!(rt;
+        closed == Ok(())
+            && unknown == Err(Refusal::NotWaiting)
+            && while_out == Some(Refusal::NotWaiting)
+    );
+    assert!(rt; tallies == [4095, 0, 1]);
 }

@@ -1,55 +1,8 @@
 -- What is asked of a partial after the pass, place by place.
-use Rattle.std.proofs.Common.{◌≡◌, ℕ, zero, suc, ◌+◌, ◌<◌, ◌≤◌, List, [], ◌∷◌, length, get_or, drop, set, sym, refl, ap, ◌∙◌, subst, add-zero, arith}
-use Rattle.std.proofs.lemmas.List.{drop_more, drop_all, set-get_or}
-use Rattle.rules.specs.Literals.{free}
-use Rattle.lookahead.specs.Nodes.{filled, set_in}
-use Rattle.lookahead.specs.Answers.{set_byte, model_byte}
-
--- ---- how many are set
-free_none : (x : ℕ) (u : List ℕ) → (x ≡ 0 → ⊥) → free (x ∷ u) ≡ free u
-free_none zero u h = absurd (h refl)
-free_none (suc x) u h = refl
-
-free_some : (x : ℕ) (u : List ℕ) → x ≡ 0 → free (x ∷ u) ≡ suc (free u)
-free_some zero u e = refl
-free_some (suc x) u e = absurd (omega arith)
-
--- count variables are set below place i
-pub record Counted (p : List ℕ) (i count : ℕ) : Type 0 where
-  pub same : count + free p ≡ i + free (drop i p)
-  pub few : count ≤ i
-
-pub counted_starts : (p : List ℕ) → Counted p 0 0
-counted_starts p = record { same = refl; few = omega arith }
-
-module _ (p : List ℕ) (i count : ℕ) (h : i < length p) (w : Counted p i count) where
-  counted_set : (get_or p i 0 ≡ 0 → ⊥) → Counted p (i + 1) (count + 1)
-  counted_set e =
-      let f = ap free (drop_more p i 0 h) ∙ free_none (get_or p i 0) (drop (i + 1) p) e in
-      let s = w.same in
-      let k = w.few in
-      record { same = omega arith; few = omega arith }
-
-  counted_free : get_or p i 0 ≡ 0 → Counted p (i + 1) count
-  counted_free e =
-      let f = ap free (drop_more p i 0 h) ∙ free_some (get_or p i 0) (drop (i + 1) p) e in
-      let s = w.same in
-      let k = w.few in
-      record { same = omega arith; few = omega arith }
-
-  counts : (b : ℕ) → get_or p i 0 ≡ b → Counted p (i + 1) (count + set_byte b)
-  counts zero e = subst (Counted p (i + 1)) (sym (add-zero count)) (counted_free e)
-  counts (suc b) e = counted_set (λ z. absurd (omega arith))
-
-  pub counted_more : Counted p (i + 1) (count + set_byte (get_or p i 0))
-  counted_more = counts (get_or p i 0) refl
-
-pub counted_ends : (p : List ℕ) (i count : ℕ) → i ≡ length p → Counted p i count → count ≡ set_in p
-counted_ends p i count e w =
-    let d = ap free (drop_all i p (omega arith)) in
-    let s = w.same in
-    let z : count + free p ≡ length p = omega arith in
-    omega arith
+use Rattle.std.proofs.Common.{◌≡◌, ℕ, zero, suc, ◌+◌, ◌<◌, ◌≤◌, List, [], ◌∷◌, length, get_or, set, sym, refl, ap, ◌∙◌, subst, arith}
+use Rattle.std.proofs.lemmas.List.{set-get_or}
+use Rattle.lookahead.specs.Nodes.{filled}
+use Rattle.lookahead.specs.Answers.{model_byte}
 
 -- ---- the free variables false
 filled_at : (p : List ℕ) (i : ℕ) → get_or p i 0 ≡ 0 → filled (set p i 2) ≡ filled p

@@ -1,13 +1,13 @@
 -- A closed partial with a rule that is not settled has a free variable, so a node that must decide finds one.
-use Rattle.std.proofs.Common.{◌≡◌, ℕ, zero, suc, ◌+◌, ◌<◌, ◌≤◌, false, ◌&&◌, List, [], ◌∷◌, length, get_or, sym, refl, subst, inl, inr, arith}
+use Rattle.std.proofs.Common.{◌≡◌, ℕ, zero, suc, ◌+◌, ◌<◌, ◌≤◌, false, ◌&&◌, None, List, [], ◌∷◌, length, get_or, sym, refl, subst, inl, inr, arith}
 use mathlib.Core.Option.{Option, none, some}
+use Rattle.std.specs.Option.{option_or}
 use Rattle.std.proofs.lemmas.Bool.{true≢false}
 use Rattle.rules.specs.Literals.{place, free, Partial, Each}
 use Rattle.stores.specs.declared.look.Look.{Look}
 use Rattle.stores.specs.declared.look.Look.TheVariants.{Settled, Broken, Forces, Open}
-use Rattle.stores.specs.declared.look.Find.TheVariants.{Nothing}
 use Rattle.stores.specs.Stores.{Store, Means, Keeps}
-use Rattle.stores.specs.Walks.{found_by, found, is_settled, settled_from, all_settled}
+use Rattle.stores.specs.Walks.{find_of, found, is_settled, settled_from, all_settled}
 use Rattle.lookahead.specs.Trials.{Scored}
 use Rattle.lookahead.specs.Nodes.{best}
 use Rattle.lookahead.proofs.Scores.{Listed}
@@ -31,13 +31,13 @@ some_best n q xs j e h (some x) k = (x, refl)
 
 module _ (s : Store) (keep : Keeps s) where
   -- nothing is broken or forces and not all is settled: a rule is open
-  open_by : (q : List ℕ) (k r : ℕ) (v : Look) → Means s r q v → found_by (found s q k) r v ≡ Nothing → (is_settled v && settled_from s q k (suc r)) ≡ false → (found s q k (suc r) ≡ Nothing → settled_from s q k (suc r) ≡ false → 2 ≤ free q) → 2 ≤ free q
+  open_by : (q : List ℕ) (k r : ℕ) (v : Look) → Means s r q v → option_or (find_of v) (found s q k (suc r)) ≡ None → (is_settled v && settled_from s q k (suc r)) ≡ false → (found s q k (suc r) ≡ None → settled_from s q k (suc r) ≡ false → 2 ≤ free q) → 2 ≤ free q
   open_by q k r Settled m e f rest = rest e f
   open_by q k r Broken m e f rest = absurd (let z : ◌≡◌ {A = ℕ} 0 1 = cc e in omega arith)
   open_by q k r (Forces l) m e f rest = absurd (let z : ◌≡◌ {A = ℕ} 0 1 = cc e in omega arith)
   open_by q k r (Open j) m e f rest = omega arith
 
-  open_left : (q : List ℕ) → Partial s.n q → (k r : ℕ) → 1 ≤ r → r + k ≤ suc s.m → found s q k r ≡ Nothing → settled_from s q k r ≡ false → 2 ≤ free q
+  open_left : (q : List ℕ) → Partial s.n q → (k r : ℕ) → 1 ≤ r → r + k ≤ suc s.m → found s q k r ≡ None → settled_from s q k r ≡ false → 2 ≤ free q
   unfolding found settled_from
   open_left q fit zero r low high e f = absurd (true≢false f)
   open_left q fit (suc k) r low high e f =

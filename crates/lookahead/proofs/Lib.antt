@@ -1,5 +1,5 @@
 pub mod Partials
-pub mod Gains
+pub mod Bounds
 pub mod Scores
 pub mod Passes
 pub mod Chosen

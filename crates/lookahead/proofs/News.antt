@@ -67,8 +67,8 @@ pub writing_ends : (p q : List ℕ) (cells : List ℤ) (i k : ℕ) → length p 
 writing_ends p q cells i k h same w =
     sym (append-nil (take k cells)) ∙ ap (λ u. take k cells ++ u) (sym (ap (λ u. news i u (drop i q)) (drop_all i p h))) ∙ w.so_far
 
--- what is so of each element is so of the one at an index
-pub each_in : {A : Type 0} (P : A → Type 0) (xs : List A) (d : A) (i : ℕ) → Each P xs → i < length xs → P (get_or xs i d)
-each_in P [] d i e h = absurd (omega arith)
-each_in P (x ∷ xs) d zero e h = e.0
-each_in P (x ∷ xs) d (suc i) e h = each_in P xs d i e.1 (omega arith)
+-- what is so of each element is so of the one at an index, whatever the default is
+pub each_get : {A : Type 0} (P : A → Type 0) (xs : List A) (i : ℕ) (d : A) → i < length xs → Each P xs → P (get_or xs i d)
+each_get P [] i d h k = absurd (omega arith)
+each_get P (x ∷ xs) zero d h k = k.0
+each_get P (x ∷ xs) (suc i) d h k = each_get P xs i d (omega arith) k.1

@@ -1,8 +1,7 @@
 -- The pass loses no satisfying assignment, only sets free variables, and scores every variable that it leaves free.
-use Rattle.std.proofs.Common.{◌≡◌, ℕ, zero, suc, ◌+◌, ◌<◌, List, [], ◌∷◌, ◌++◌, get_or, set, pos, negsuc, sym, refl, ◌∙◌, subst, inl, inr, ⊎_elim, arith}
+use Rattle.std.proofs.Common.{◌≡◌, ℕ, zero, suc, ◌+◌, ◌<◌, None, List, [], ◌∷◌, ◌++◌, get_or, set, pos, negsuc, sym, refl, ◌∙◌, subst, inl, inr, ⊎_elim, arith}
 use Rattle.std.proofs.lemmas.Bool.{cases_eq}
 use Rattle.rules.specs.Literals.{Partial, Extends}
-use Rattle.stores.specs.declared.look.Find.TheVariants.{Nothing}
 use Rattle.stores.specs.Stores.{Store, Keeps}
 use Rattle.stores.specs.Walks.{lowest_of}
 use Rattle.closing.specs.Closing.{Closing, clash, closes, close}
@@ -30,13 +29,13 @@ grown_on s p q r h k =
 -- what is so of a closing of p that ends as this
 abbrev pub CloseMeans : Store → List ℕ → Closing → Type 0
 CloseMeans s p clash = Dead s p
-CloseMeans s p (closes q) = Grown s p q × (lowest_of s q ≡ Nothing)
+CloseMeans s p (closes q) = Grown s p q × (lowest_of s q ≡ None)
 
 -- what is so when the variables before place i of a pass that began at p had their turns, and left q with the scores xs
 pub record Stands (s : Store) (p : List ℕ) (i : ℕ) (q : List ℕ) (xs : List Scored) : Type 0 where
   pub grown : Grown s p q
   -- no rule is broken or forces
-  pub quiet : lowest_of s q ≡ Nothing
+  pub quiet : lowest_of s q ≡ None
   -- the scored variables are the store's, in rising order
   pub literals : Literals s.n xs
   pub rises : Rises 0 i xs
@@ -58,7 +57,7 @@ below i j h k = omega arith
 -- ---- one turn
 module _ (s : Store) (p q : List ℕ) (i : ℕ) (xs : List Scored) (now : Stands s p i q xs) where
   -- the variable is set and not scored
-  after_set : (r : List ℕ) → Grown s q r → lowest_of s r ≡ Nothing → (get_or r i 0 ≡ 0 → ⊥) → Stands s p (suc i) r xs
+  after_set : (r : List ℕ) → Grown s q r → lowest_of s r ≡ None → (get_or r i 0 ≡ 0 → ⊥) → Stands s p (suc i) r xs
   after_set r g quiet taken =
       record {
         grown = grown_on s p q r now.grown g;
@@ -69,7 +68,7 @@ module _ (s : Store) (p q : List ℕ) (i : ℕ) (xs : List Scored) (now : Stands
       }
 
   -- it is scored
-  after_score : (r : List ℕ) → Grown s q r → lowest_of s r ≡ Nothing → (k : Rank) → i < s.n → Stands s p (suc i) r (xs ++ (scored i k ∷ []))
+  after_score : (r : List ℕ) → Grown s q r → lowest_of s r ≡ None → (k : Rank) → i < s.n → Stands s p (suc i) r (xs ++ (scored i k ∷ []))
   after_score r g quiet k h =
       record {
         grown = grown_on s p q r now.grown g;

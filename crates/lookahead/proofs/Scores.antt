@@ -21,7 +21,7 @@ literal_by : (n i : ℕ) (b : Bool) → i < n → Literal n (literal_of i b)
 literal_by n i true h = h
 literal_by n i false h = h
 
-place_by : (i : ℕ) (b : Bool) → place (literal_of i b) ≡ i
+pub place_by : (i : ℕ) (b : Bool) → place (literal_of i b) ≡ i
 place_by i true = refl
 place_by i false = refl
 

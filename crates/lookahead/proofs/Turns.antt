@@ -1,86 +1,58 @@
 -- What a turn comes to, by how the closings of its two sides end.
-use Rattle.std.proofs.Common.{◌≡◌, ℕ, zero, suc, ◌≤◌, Bool, true, false, List, [], ◌∷◌, ◌++◌, get_or, set, sym, refl, ap, ◌∙◌, subst, inl, inr, arith, length-set}
-use Rattle.rules.specs.Literals.{Partial, Extends}
-use Rattle.stores.specs.Stores.{Store}
-use Rattle.closing.specs.Closing.{Closing, close, ended}
-use Rattle.closing.specs.declared.ending.Ending.{Ending}
-use Rattle.closing.specs.declared.ending.Ending.TheVariants.{Clash, Closed}
-use Rattle.lookahead.specs.declared.kinds.Left.{Left}
-use Rattle.lookahead.specs.declared.kinds.Left.TheVariants as left
-use Rattle.lookahead.specs.Trials.{Ranking, Scored, Pass, dead, rank_of, scored, common, onward, tried, turn_of}
-use Rattle.lookahead.specs.Answers.{side_byte, sides_left, ranked_by, goes_on, most_gain, Low}
-
--- the sides that are left say how each ended
-abbrev pub Ends : Left → Ending → Ending → Type 0
-Ends left.Neither a b = (a ≡ Clash) × (b ≡ Clash)
-Ends left.False a b = (a ≡ Clash) × (b ≡ Closed)
-Ends left.True a b = (a ≡ Closed) × (b ≡ Clash)
-Ends left.Both a b = (a ≡ Closed) × (b ≡ Closed)
-
-ends_of : (a b : Ending) → Ends (sides_left a b) a b
-ends_of Clash Clash = (refl, refl)
-ends_of Clash Closed = (refl, refl)
-ends_of Closed Clash = (refl, refl)
-ends_of Closed Closed = (refl, refl)
-
-pub ends_by : (a b : Ending) (l : Left) → l ≡ sides_left a b → Ends l a b
-ends_by a b l e = subst (λ m. Ends m a b) (sym e) (ends_of a b)
+use Rattle.std.proofs.Common.{◌≡◌, ℕ, ◌≤◌, Bool, List, [], ◌∷◌, ◌++◌, get_or, set, ℤ, sym, ap, ◌∙◌, subst, arith}
+use Rattle.rules.specs.Literals.{put, Partial, Extends}
+use Rattle.stores.specs.Stores.{Store, Keeps}
+use Rattle.stores.specs.Walks.{gained}
+use Rattle.closing.specs.Closing.{Closing, clash, closes, close, left}
+use Rattle.closing.proofs.Partials.{put_partial, put_adds, extends_on}
+use Rattle.closing.proofs.Right.{right}
+use Rattle.lookahead.specs.Trials.{Ranking, Scored, Pass, dead, literal_of, rank_of, most_gain, scored, common, onward, tried, turn_of}
+use Rattle.lookahead.specs.Answers.{set_all}
+use Rattle.lookahead.proofs.Bounds.{gained_low}
+use Rattle.lookahead.proofs.Scores.{place_by}
 
 module _ (s : Store) (rank : Ranking) (p : List ℕ) (i : ℕ) (go : List ℕ → List Scored → Pass) (xs : List Scored) where
   abbrev ComesTo : Pass → Type 0
   ComesTo r = turn_of s rank go p i xs 0 ≡ r
 
-  ends_as : (c d : Closing) → close s (set p i 1) ≡ c → close s (set p i 2) ≡ d → ComesTo (tried s rank go p i xs c d)
-  ends_as c d e f = ap (λ u. tried s rank go p i xs u (close s (set p i 2))) e ∙ ap (tried s rank go p i xs c) f
+  ends_as : (c d : Closing) → c ≡ close s (set p i 1) → d ≡ close s (set p i 2) → ComesTo (tried s rank go p i xs c d)
+  ends_as c d e f = ap (λ u. tried s rank go p i xs u (close s (set p i 2))) (sym e) ∙ ap (tried s rank go p i xs c) (sym f)
 
-  module _ (a b : Ending) (q r : List ℕ) (e : ended a q ≡ close s (set p i 1)) (f : ended b r ≡ close s (set p i 2)) where
-    by_ends : (u v : Ending) → a ≡ u → b ≡ v → ComesTo (tried s rank go p i xs (ended u q) (ended v r))
-    by_ends u v x y =
-        ends_as (ended a q) (ended b r) (sym e) (sym f)
-        ∙ ap (λ w. tried s rank go p i xs (ended w q) (ended b r)) x
-        ∙ ap (λ w. tried s rank go p i xs (ended u q) (ended w r)) y
+  pub no_side : clash ≡ close s (set p i 1) → clash ≡ close s (set p i 2) → ComesTo dead
+  no_side = ends_as clash clash
 
-    pub no_side : Ends left.Neither a b → ComesTo dead
-    no_side h = by_ends Clash Clash h.0 h.1
+  pub false_side : (r : List ℕ) → clash ≡ close s (set p i 1) → closes r ≡ close s (set p i 2) → ComesTo (go r xs)
+  false_side r = ends_as clash (closes r)
 
-    pub false_side : Ends left.False a b → ComesTo (go r xs)
-    false_side h = by_ends Clash Closed h.0 h.1
+  pub true_side : (q : List ℕ) → closes q ≡ close s (set p i 1) → clash ≡ close s (set p i 2) → ComesTo (go q xs)
+  true_side q = ends_as (closes q) clash
 
-    pub true_side : Ends left.True a b → ComesTo (go q xs)
-    true_side h = by_ends Closed Clash h.0 h.1
-
+  module _ (q r : List ℕ) (e : closes q ≡ close s (set p i 1)) (f : closes r ≡ close s (set p i 2)) where
     abbrev onto : List ℕ → Pass
     onto t = go t (xs ++ (scored i (rank p q r) ∷ []))
 
     -- both sides are left: by how closing what they share ends
-    pub both_sides :
-        Ends left.Both a b → (c : Ending) (t : List ℕ) → ended c t ≡ close s (common p q r) → (k m : ℕ) → rank p q r ≡ rank_of k m → ComesTo (goes_on (ranked_by c k m) go t i xs)
-    both_sides h Clash t x k m y = by_ends Closed Closed h.0 h.1 ∙ ap (onward onto) (sym x)
-    both_sides h Closed t x k m y =
-        by_ends Closed Closed h.0 h.1 ∙ ap (onward onto) (sym x) ∙ ap (λ n. go t (xs ++ (scored i n ∷ []))) y
+    pub shared_clashes : clash ≡ close s (common p q r) → ComesTo dead
+    shared_clashes h = ends_as (closes q) (closes r) e f ∙ ap (onward onto) (sym h)
 
-pub ranked_low : (c : Ending) (k m : ℕ) → k ≤ most_gain → m ≤ most_gain → Low (ranked_by c k m)
-ranked_low Clash k m h l = tt
-ranked_low Closed k m h l = (h, l)
+    pub shared_closes : (t : List ℕ) → closes t ≡ close s (common p q r) → (k m : ℕ) → rank p q r ≡ rank_of k m → ComesTo (go t (xs ++ (scored i (rank_of k m) ∷ [])))
+    shared_closes t h k m y = ends_as (closes q) (closes r) e f ∙ ap (onward onto) (sym h) ∙ ap (λ n. go t (xs ++ (scored i n ∷ []))) y
 
-pub side_low : (b : Bool) → side_byte b ≤ 2
-side_low true = omega arith
-side_low false = omega arith
+-- ---- what closings add
+pub set_all_fits : (n : ℕ) (p : List ℕ) (ls : List ℤ) → Partial n p → Partial n (set_all p ls)
+set_all_fits n p [] fit = fit
+set_all_fits n p (l ∷ ls) fit = set_all_fits n (put p l) ls (put_partial n p l fit)
 
--- a side, as it begins
-set_byte : (p : List ℕ) (i j b : ℕ) → b ≤ 2 → get_or p j 0 ≤ 2 → get_or (set p i b) j 0 ≤ 2
-set_byte [] i j b h k = k
-set_byte (x ∷ p) zero zero b h k = h
-set_byte (x ∷ p) zero (suc j) b h k = k
-set_byte (x ∷ p) (suc i) zero b h k = k
-set_byte (x ∷ p) (suc i) (suc j) b h k = set_byte p i j b h k
+module _ (s : Store) (keep : Keeps s) where
+  -- closing u, which extends p, leaves what extends p
+  pub closes_more : (p u v : List ℕ) → Partial s.n u → Extends u p → v ≡ left s u → Extends v p
+  closes_more p u v fit adds leaves = extends_on v u p (subst (λ w. Extends w u) (sym leaves) ((right s keep).left_sets_free u fit)) adds
 
-pub side_fits : (n : ℕ) (p : List ℕ) (i b : ℕ) → b ≤ 2 → Partial n p → Partial n (set p i b)
-side_fits n p i b h fit = record { long = length-set p i b ∙ fit.long; bytes = λ j. set_byte p i j b h (fit.bytes j) }
+  pub side_adds : (p : List ℕ) (i : ℕ) (b : Bool) (q : List ℕ) → Partial s.n p → get_or p i 0 ≡ 0 → q ≡ left s (put p (literal_of i b)) → Extends q p
+  side_adds p i b q fit free =
+      let l = literal_of i b in
+      closes_more p (put p l) q (put_partial s.n p l fit) (put_adds p l (ap (λ j. get_or p j 0) (place_by i b) ∙ free))
 
-pub side_adds : (p : List ℕ) (i b : ℕ) → get_or p i 0 ≡ 0 → Extends (set p i b) p
-side_adds [] i b e j = inl (refl)
-side_adds (x ∷ p) zero b e zero = inl e
-side_adds (x ∷ p) zero b e (suc j) = inr (refl)
-side_adds (x ∷ p) (suc i) b e zero = inr (refl)
-side_adds (x ∷ p) (suc i) b e (suc j) = side_adds p i b e j
+-- a gain is at most 1,000 for each of 16,384 rules
+pub gain_low : (s : Store) → s.m ≤ 16384 → (p q : List ℕ) (k : ℕ) → k ≡ gained s p q → k ≤ most_gain
+gain_low s few p q k e = omega (arith, gained_low s p q)

@@ -1,27 +1,19 @@
 -- The code's answers and memory as the definitions have them.
-use Rattle.std.specs.Prelude.{◌≡◌, ℕ, zero, suc, ◌≤◌, Bool, true, false, cond, List, [], ◌∷◌, ◌++◌, map, length, take, ℤ, Some, None, Option}
+use Rattle.std.specs.Prelude.{◌≡◌, ℕ, zero, suc, ◌≤◌, true, false, cond, List, [], ◌∷◌, ◌++◌, map, length, take, ℤ, Some, None, Option, Ok, Err, Result}
 use Rattle.std.proofs.Math.Option.{Option as Best, none, some}
 use Rattle.rules.specs.Literals.{put, is_true, Literal, Each}
 use Rattle.stores.specs.Stores.{Store}
 use Rattle.stores.specs.Walks.{gained}
-use Rattle.closing.specs.declared.ending.Ending.{Ending}
-use Rattle.closing.specs.declared.ending.Ending.TheVariants.{Clash, Closed}
+use Rattle.closing.specs.declared.ending.Clash.{Clash}
 use Rattle.stack.specs.declared.kinds.Record.{Record}
 use Rattle.cutoff.specs.declared.kinds.Cutoff.{Cutoff}
-use Rattle.lookahead.specs.declared.kinds.Left.{Left}
-use Rattle.lookahead.specs.declared.kinds.Left.TheVariants as left
-use Rattle.lookahead.specs.declared.kinds.Turn.{Turn}
-use Rattle.lookahead.specs.declared.kinds.Turn.TheVariants as turn
+use Rattle.lookahead.specs.declared.kinds.Gains.{Gains}
 use Rattle.lookahead.specs.declared.kinds.Outcome.{Outcome}
 use Rattle.lookahead.specs.declared.kinds.Outcome.TheVariants as outcome
 use Rattle.lookahead.specs.Trials.{Scored, Pass, dead, alive, scored, rank_of, literal_of}
 use Rattle.lookahead.specs.Nodes.{Node, refuted, model, cube, decided, Worked}
 
--- how many a byte counts among the set variables, and what it is in the model
-abbrev pub set_byte : ℕ → ℕ
-set_byte zero = 0
-set_byte (suc b) = 1
-
+-- what a byte is in the model
 abbrev pub model_byte : ℕ → ℕ
 model_byte zero = 2
 model_byte (suc b) = suc b
@@ -53,52 +45,27 @@ abbrev pub held : List ℕ → List ℤ → List ℤ
 held r [] = []
 held r (l ∷ ls) = cond (is_true r l) (l ∷ held r ls) (held r ls)
 
--- the byte that a side gives its variable
-abbrev pub side_byte : Bool → ℕ
-side_byte true = 1
-side_byte false = 2
-
--- the sides that are left, by how the true side and the false side ended
-abbrev pub sides_left : Ending → Ending → Left
-sides_left Clash Clash = left.Neither
-sides_left Clash Closed = left.False
-sides_left Closed Clash = left.True
-sides_left Closed Closed = left.Both
-
--- a turn in which both sides closed, by how closing what they share ended
-abbrev pub ranked_by : Ending → ℕ → ℕ → Turn
-ranked_by Clash t f = turn.Refuted
-ranked_by Closed t f = turn.Ranked t f
-
 -- What is kept of the true side that left q, where it closed: its gain, and its new literals at the start of the places.
 pub record Taken (s : Store) (p q : List ℕ) (places : List ℤ) (gain k : ℕ) : Type 0 where
   pub gains : gain ≡ gained s p q
+  pub few : k ≤ length places
   pub front : take k places ≡ news 0 p q
   pub literals : Each (Literal (length p)) (take k places)
 
 -- how a pass goes on after a variable's turn that left p
-abbrev pub goes_on : Turn → (List ℕ → List Scored → Pass) → List ℕ → ℕ → List Scored → Pass
-goes_on turn.Refuted go p i xs = dead
-goes_on turn.Kept go p i xs = go p xs
-goes_on (turn.Ranked t f) go p i xs = go p (xs ++ (scored i (rank_of t f) ∷ []))
-
--- gains are at most 16,384 rules times 1,000, so that a score is below 2 ^ 58
-abbrev pub most_gain : ℕ
-most_gain = 16384000
-
-abbrev pub Low : Turn → Type 0
-Low turn.Refuted = Unit {0}
-Low turn.Kept = Unit {0}
-Low (turn.Ranked t f) = (t ≤ most_gain) × (f ≤ most_gain)
+abbrev pub goes_on : Result (Option Gains) Clash → (List ℕ → List Scored → Pass) → List ℕ → ℕ → List Scored → Pass
+goes_on (Err e) go p i xs = dead
+goes_on (Ok None) go p i xs = go p xs
+goes_on (Ok (Some g)) go p i xs = go p (xs ++ (scored i (rank_of g.yes g.no) ∷ []))
 
 -- A scored variable stands in an unused branch record: its literal as the decision, its score as the height.
 abbrev pub noted : Record → Scored
 noted r = record { literal = r.decision; score = r.height }
 
 -- the pass's answer: refuted, or how many variables were scored
-abbrev pub passed : Option ℕ → List ℕ → List Record → Pass
-passed None p notes = dead
-passed (Some k) p notes = alive p (map noted (take k notes))
+abbrev pub passed : Result ℕ Clash → List ℕ → List Record → Pass
+passed (Err e) p notes = dead
+passed (Ok k) p notes = alive p (map noted (take k notes))
 
 -- the best so far, as the code holds it, and the literal of the best
 abbrev pub best_note : Option Record → Best Scored
@@ -108,11 +75,6 @@ best_note (Some r) = some (noted r)
 abbrev pub literal_in : Best Scored → Option ℤ
 literal_in none = None
 literal_in (some x) = Some x.literal
-
--- as many as the memory has places
-abbrev pub Within : Option ℕ → ℕ → Type 0
-Within None size = Unit {0}
-Within (Some k) size = k ≤ size
 
 -- what becomes of a branch that is neither settled nor cut, by the literal that was chosen
 abbrev pub decided_as : Option ℤ → Outcome

@@ -18,6 +18,10 @@ Ranking = List ℕ → List ℕ → List ℕ → Rank
 abbrev pub rank_of : ℕ → ℕ → Rank
 rank_of t f = record { score = 1024 * (t * f) + (t + f); true_first = cond (nat_lt f t) false true }
 
+-- gains are at most 16,384 rules times 1,000, so that a score is below 2 ^ 58
+abbrev pub most_gain : ℕ
+most_gain = 16384000
+
 -- the ranking by gains
 abbrev pub by_gains : Store → Ranking
 by_gains s p q r = rank_of (gained s p q) (gained s p r)

@@ -1,23 +1,13 @@
 // What a variable's turn and a node come to.
+ghost use Rattle.std.specs.Prelude.{◌≤◌};
+ghost use Rattle.lookahead.specs.Trials.{most_gain};
 
-// Which sides of a variable close.
+// What a variable's true side gains, and its false side.
 #[derive(Clone, Copy)]
-pub enum Left {
-    Neither,
-    False,
-    True,
-    Both,
-}
-
-// What becomes of the partial at a variable's turn.
-#[derive(Clone, Copy)]
-pub enum Turn {
-    // both sides clash, or what they share does
-    Refuted,
-    // one side clashes: the partial is the other side
-    Kept,
-    // neither clashes: the gains of the true side and of the false side
-    Ranked(u32, u32),
+pub struct Gains {
+    pub yes: u32,
+    pub no: u32,
+    ghost low: { (yes ≤ most_gain) × (no ≤ most_gain) },
 }
 
 // What becomes of a branch.

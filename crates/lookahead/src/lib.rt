@@ -11,7 +11,7 @@ mod working;
 
 pub use cases::cases_hold;
 pub use choosing::{fill, set_count};
-pub use kinds::{Outcome, Turn};
+pub use kinds::{Gains, Outcome};
 pub use literals::{adopt, adopt_held, literal_of, write_news};
 pub use looking::look_ahead;
 pub use trials::trial;

@@ -1,10 +1,10 @@
 // Literals on unused trail places: what a side has set, and setting it again.
-ghost use Rattle.std.specs.Prelude.{◌≡◌, ℕ, ◌<◌, ◌≤◌, Bool, true, length, take, pos, if◌then◌else◌, slice_index_or};
-ghost use Rattle.rules.specs.Literals.{Literal, Each, free, is_true, put};
+ghost use Rattle.std.specs.Prelude.{◌≡◌, ◌<◌, ◌≤◌, length, take};
+ghost use Rattle.rules.specs.Literals.{Literal, Each, free};
 ghost use Rattle.lookahead.specs.Trials.{literal_of};
 ghost use Rattle.lookahead.specs.Answers.{new_at, news, set_all, held};
 
-use closing::assign;
+use rules::{assign, is_true};
 
 // The literal of the variable at a place.
 pub fn literal_of(i: usize, positive: bool) -> i32
@@ -20,13 +20,11 @@ fn new_literal(i: usize, before: u8, after: u8) -> Option<i32>
     requires { i < 2048 }
     ensures { result ≡ new_at i before after }
 {
-    if before != 0 {
-        return None;
-    }
-    match after {
-        0 => None,
-        1 => Some(literal_of(i, true)),
-        _ => Some(literal_of(i, false)),
+    match (before, after) {
+        (0, 0) => None,
+        (0, 1) => Some(literal_of(i, true)),
+        (0, _) => Some(literal_of(i, false)),
+        _ => None,
     }
 }
 
@@ -38,9 +36,11 @@ pub fn write_news(before: &[u8], after: &[u8], places: &mut [i32]) -> usize
     ensures few { result ≤ length places.new }
     ensures literals { Each (Literal (length before.now)) (take result places.new) }
 {
+    // Stays: the caller keeps the memory and learns how much of it was written; a loop over the places themselves would say
+    // nothing of what it wrote.
     let mut k = 0;
-    for i in 0..before.len() {
-        if let Some(l) = new_literal(i, before[i], after[i]) {
+    for (i, was) in before.iter().enumerate() {
+        if let Some(l) = new_literal(i, *was, after[i]) {
             places[k] = l;
             k += 1;
         }
@@ -48,52 +48,23 @@ pub fn write_news(before: &[u8], after: &[u8], places: &mut [i32]) -> usize
     k
 }
 
-// Sets the literal at a place of the list.
-fn adopt_at(partial: &mut [u8], literals: &[i32], k: usize)
-    requires { (k < length literals.now) × (Literal (length partial.old) (slice_index_or literals.now k (pos 0))) }
-    ensures { partial.new ≡ put partial.old (slice_index_or literals.now k (pos 0)) }
-{
-    assign(partial, literals[k]);
-}
-
 // Sets these literals.
 pub fn adopt(partial: &mut [u8], literals: &[i32])
-    requires { Each (Literal (length partial.old)) literals.now }
     ensures { partial.new ≡ set_all partial.old literals.now }
 {
-    for k in 0..literals.len() {
-        adopt_at(partial, literals, k);
+    for literal in literals {
+        assign(partial, *literal);
     }
 }
 
-// Whether a literal is true.
-fn holds(bytes: &[u8], literal: i32) -> bool
-    requires { Literal (length bytes.now) literal }
-    ensures { result ≡ is_true bytes.now literal }
+// Sets those of a side's new literals that are true on the other side too.
+pub fn adopt_held(partial: &mut [u8], news: &[i32], other: &[u8])
+    requires { (Each (Literal (length partial.old)) news.now) × (length other.now ≡ length partial.old) }
+    ensures { partial.new ≡ set_all partial.old (held other.now news.now) }
 {
-    if literal > 0 {
-        bytes[(literal - 1) as usize] == 1
-    } else {
-        bytes[(-1 - literal) as usize] == 2
-    }
-}
-
-// Sets a literal that is true on the other side too.
-fn adopt_if_held(partial: &mut [u8], literal: i32, other: &[u8])
-    requires { (Literal (length partial.old) literal) × (length other.now ≡ length partial.old) }
-    ensures { partial.new ≡ (if is_true other.now literal then put partial.old literal else partial.old) }
-{
-    if holds(other, literal) {
-        assign(partial, literal);
-    }
-}
-
-// Sets those of these literals that are true on the other side too.
-pub fn adopt_held(partial: &mut [u8], literals: &[i32], other: &[u8])
-    requires { (Each (Literal (length partial.old)) literals.now) × (length other.now ≡ length partial.old) }
-    ensures { partial.new ≡ set_all partial.old (held other.now literals.now) }
-{
-    for l in literals {
-        adopt_if_held(partial, *l, other);
+    for l in news {
+        if is_true(other, *l) {
+            assign(partial, *l);
+        }
     }
 }

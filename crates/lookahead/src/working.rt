@@ -76,7 +76,7 @@ pub fn node<S: Rules>(
     ensures right { NodeRight (S.Rules.means store.now) }
 {
     cutoff.rise();
-    let Some(k) = look_ahead(store, partial, side, places, notes) else {
+    let Ok(k) = look_ahead(store, partial, side, places, notes) else {
         cutoff.fall();
         return Outcome::Refuted;
     };

@@ -1,5 +1,5 @@
 // A node as a row: what it is worked on, and what it comes to.
-use cutoff::{Cutoff, Kept};
+use cutoff::{Cutoff, Kept, Kind};
 use lookahead::{Outcome, node};
 use stack::Record;
 use std::process::Abort;
@@ -20,9 +20,9 @@ pub struct Row {
     pub before: [u8; 7],
     pub outcome: Outcome,
     // the last partial, or the model; of a refuted branch it is not told
-    pub after: [u8; 7],
-    // the next cutoff as two numbers
-    pub kept: (u8, u64),
+    pub after: Option<[u8; 7]>,
+    // the next cutoff as its kind and a number
+    pub kept: (Kind, u64),
 }
 
 const BLANK: Record = Record {
@@ -59,13 +59,11 @@ pub fn work<S: Rules>(
     ))
 }
 
-// The two numbers that a cutoff is kept as.
-fn numbers(cutoff: Cutoff) -> (u8, u64) {
-    if cutoff.check().is_err() {
-        return (9, 0);
-    }
+// What a cutoff is kept as, if it is allowed.
+fn kept(cutoff: Cutoff) -> Option<(Kind, u64)> {
+    cutoff.check().ok()?;
     let kept = Kept::keep(cutoff);
-    (kept.kind, kept.bits)
+    Some((kept.kind, kept.bits))
 }
 
 pub fn hold_row<S: Rules>(rt: &impl Abort, store: &S, row: &Row) -> Result<(), Fail> {
@@ -79,14 +77,11 @@ pub fn hold_row<S: Rules>(rt: &impl Abort, store: &S, row: &Row) -> Result<(), F
         work(store, &mut cutoff, row.decisions, &mut bytes[0..n]),
         Some(row.outcome)
     );
-    assert_eq!(rt; numbers(cutoff), row.kept);
-    match row.outcome {
-        Outcome::Refuted => Ok(()),
-        _ => {
-            assert_eq!(rt; bytes, row.after);
-            Ok(())
-        },
+    assert_eq!(rt; kept(cutoff), Some(row.kept));
+    if let Some(after) = row.after {
+        assert_eq!(rt; bytes, after);
     }
+    Ok(())
 }
 
 pub fn hold(rt: &impl Abort, question: &Question, rows: &[Row]) -> Result<(), Fail> {

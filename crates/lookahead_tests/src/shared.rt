@@ -1,7 +1,7 @@
 // What both sides of a variable share can clash over a store that says less of a partial than of one that it extends.
 use crate::contrary::Contrary;
 use crate::rows::{Row, hold_row};
-use cutoff::Cutoff;
+use cutoff::{Cutoff, Kind};
 use lookahead::Outcome;
 use std::test::Fail;
 
@@ -12,8 +12,8 @@ const ROWS: [Row; 3] = [
         decisions: 0,
         before: [0, 0, 0, 0, 0, 0, 0],
         outcome: Outcome::Refuted,
-        after: [0, 0, 0, 0, 0, 0, 0],
-        kept: (0, 0),
+        after: None,
+        kept: (Kind::Never, 0),
     },
     // the cutoff rises and falls once, as at every refuted node
     Row {
@@ -21,8 +21,8 @@ const ROWS: [Row; 3] = [
         decisions: 21,
         before: [0, 0, 0, 0, 0, 0, 0],
         outcome: Outcome::Refuted,
-        after: [0, 0, 0, 0, 0, 0, 0],
-        kept: (3, 0x3ffd666666666666),
+        after: None,
+        kept: (Kind::Easing, 0x3ffd666666666666),
     },
     // with 1 set it forces 2, and then both sides of 3 clash
     Row {
@@ -30,8 +30,8 @@ const ROWS: [Row; 3] = [
         decisions: 1,
         before: [1, 0, 0, 0, 0, 0, 0],
         outcome: Outcome::Refuted,
-        after: [0, 0, 0, 0, 0, 0, 0],
-        kept: (0, 0),
+        after: None,
+        kept: (Kind::Never, 0),
     },
 ];
 

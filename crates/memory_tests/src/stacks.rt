@@ -1,62 +1,37 @@
 use stack::{Record, Refusal, Stack};
 
-fn number_of(answer: Result<(), Refusal>) -> u32 {
-    match answer {
-        Ok(()) => 0,
-        Err(refusal) => refusal.number(),
-    }
-}
-
-fn shown(x: Option<i32>) -> i32 {
-    match x {
-        Some(lit) => lit,
-        None => 0,
-    }
-}
-
-// What a push hands back, or 0.
-fn handed_back(trail: &mut Stack<i32>, lit: i32) -> i32 {
-    match trail.push(lit) {
-        Ok(()) => 0,
-        Err(back) => back,
-    }
-}
-
 #[test]
 fn a_stack_asks_for_places(rt: HostRuntime) {
     let memory = [0i32; 4];
-    let answers = [
-        number_of(Stack::check(&memory, 0)),
-        number_of(Stack::check(&memory, 4)),
-        number_of(Stack::check(&memory, 5)),
-    ];
-    assert!(rt; answers == [0, 0, 22]);
+    assert!(rt; Stack::check(&memory, 0) == Ok(()) && Stack::check(&memory, 4) == Ok(()));
+    assert!(rt; Stack::check(&memory, 5) == Err(Refusal::Short));
+    assert!(rt; Refusal::Short.number() == 22);
 }
 
 #[test]
 fn a_trail_over_three_places(rt: HostRuntime) {
     let mut memory = [9i32; 3];
     let mut trail = Stack::new(&mut memory);
-    let empty = shown(trail.pop());
-    let first = handed_back(&mut trail, -2048);
-    let second = handed_back(&mut trail, 2048);
+    assert!(rt; trail.pop() == None);
+    assert!(rt; trail.push(-2048) == Ok(()) && trail.push(2048) == Ok(()));
     trail.put(3);
-    let full = handed_back(&mut trail, 4);
+    assert!(rt; trail.push(4) == Err(4));
     trail.put(5);
-    let last = shown(trail.pop());
-    assert!(rt;
-        [
-            empty,
-            first,
-            second,
-            full,
-            last,
-            shown(trail.get(1)),
-            shown(trail.get(2)),
-        ] == [0, 0, 0, 4, 3, 2048, 0]
-    );
+    assert!(rt; trail.pop() == Some(3));
+    assert!(rt; trail.get(1) == Some(2048) && trail.get(2) == None);
     trail.truncate(1);
     assert!(rt; trail.as_slice() == [-2048].as_slice());
+}
+
+#[test]
+fn a_slice_is_appended(rt: HostRuntime) {
+    let mut memory = [9i32; 5];
+    let mut trail = Stack::new(&mut memory);
+    trail.put(1);
+    assert!(rt; trail.spare_len() == 4);
+    trail.extend_from_slice(&[2, 3]);
+    assert!(rt; trail.as_slice() == [1, 2, 3].as_slice() && trail.spare_len() == 2);
+    assert!(rt; memory == [1, 2, 3, 9, 9]);
 }
 
 #[test]

@@ -14,11 +14,9 @@ pub struct Found {
 }
 
 fn sum_of(notes: &[Record]) -> usize {
-    let mut sum: usize = 0;
-    for note in notes {
-        sum = sum.wrapping_add(note.height);
-    }
-    sum
+    notes
+        .iter()
+        .fold(0, |sum: usize, note| sum.wrapping_add(note.height))
 }
 
 const BLANK: Record = Record {

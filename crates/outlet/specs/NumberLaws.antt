@@ -1,9 +1,9 @@
 -- The number outlet keeps the laws: above all, no two lists of entries have the same numbers.
-use Rattle.std.specs.Prelude.{◌≡◌, ℕ, List, [], ◌∷◌, ◌++◌, length, take, drop, refl}
-use Rattle.std.proofs.Common.{sym, ◌∙◌, ap, arith}
+use Rattle.std.specs.Prelude.{◌≡◌, List, [], ◌∷◌, ◌++◌, length, take, drop, refl}
+use Rattle.std.proofs.Common.{sym, ◌∙◌, ap}
 use Rattle.std.proofs.lemmas.List.{take_at, drop_at}
 use Rattle.outlet.specs.Entries.{Entry, cube, learnt, OutletLaws}
-use Rattle.outlet.specs.Memory.{grew_none, grew_more}
+use Rattle.outlet.specs.Memory.{kept_none, kept_more}
 use Rattle.outlet.specs.Numbers.{numbers, HoldsNumbers, KeepsNumbers}
 
 -- lists with fronts of one length are equal part by part
@@ -15,12 +15,12 @@ rest_same ls ks rs ss n e = sym (drop_at ls rs (length ks) n) ∙ ap (drop (leng
 
 pub numbers_told : (es fs : List Entry) → numbers es ≡ numbers fs → es ≡ fs
 numbers_told [] [] h = refl
-numbers_told [] (cube ks ∷ fs) h = absurd (let z : ◌≡◌ {A = ℕ} 0 1 = cc in omega arith)
-numbers_told [] (learnt ks ∷ fs) h = absurd (let z : ◌≡◌ {A = ℕ} 0 1 = cc in omega arith)
-numbers_told (cube ls ∷ es) [] h = absurd (let z : ◌≡◌ {A = ℕ} 0 1 = cc in omega arith)
-numbers_told (learnt ls ∷ es) [] h = absurd (let z : ◌≡◌ {A = ℕ} 0 1 = cc in omega arith)
-numbers_told (cube ls ∷ es) (learnt ks ∷ fs) h = absurd (let z : ◌≡◌ {A = ℕ} 1 2 = cc in omega arith)
-numbers_told (learnt ls ∷ es) (cube ks ∷ fs) h = absurd (let z : ◌≡◌ {A = ℕ} 2 1 = cc in omega arith)
+numbers_told [] (cube ks ∷ fs) h = cc
+numbers_told [] (learnt ks ∷ fs) h = cc
+numbers_told (cube ls ∷ es) [] h = cc
+numbers_told (learnt ls ∷ es) [] h = cc
+numbers_told (cube ls ∷ es) (learnt ks ∷ fs) h = cc
+numbers_told (learnt ls ∷ es) (cube ks ∷ fs) h = cc
 numbers_told (cube ls ∷ es) (cube ks ∷ fs) h =
     let n : length ls ≡ length ks = cc in
     let r : ls ++ numbers es ≡ ks ++ numbers fs = cc in
@@ -35,9 +35,6 @@ numbers_told (learnt ls ∷ es) (learnt ks ∷ fs) h =
 pub number_laws : OutletLaws HoldsNumbers KeepsNumbers
 number_laws = record {
   one_list = λ o es fs m n. numbers_told es fs (sym m.held ∙ n.held);
-  keeps_none = λ o. record { same = refl; grew = grew_none o.used o.cells.now };
-  keeps_more = λ o p q k l. record {
-    same = l.same ∙ k.same;
-    grew = grew_more o.used p.used q.used o.cells.now p.cells.now q.cells.now k.grew l.grew;
-  };
+  keeps_none = λ o. kept_none o.numbers;
+  keeps_more = λ o p q. kept_more o.numbers p.numbers q.numbers;
 }

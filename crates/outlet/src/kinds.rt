@@ -2,16 +2,17 @@
 ghost use Rattle.std.specs.Prelude.{◌≡◌};
 ghost use Rattle.outlet.specs.Entries.{number_of};
 
+// A kind's discriminant is its number where entries are written as numbers.
 #[derive(Clone, Copy, PartialEq, Eq, Debug)]
 pub enum Kind {
-    Cube,
-    Learnt,
+    Cube = 1,
+    Learnt = 2,
 }
 
 #[derive(Clone, Copy, PartialEq, Eq, Debug)]
 pub enum Refusal {
     // the entry does not fit
-    NoRoom,
+    NoRoom = 24,
 }
 
 impl Refusal {
@@ -19,8 +20,6 @@ impl Refusal {
     pub fn number(self) -> u32
         ensures { result ≡ number_of self }
     {
-        match self {
-            Refusal::NoRoom => 24,
-        }
+        self as u32
     }
 }

@@ -1,11 +1,12 @@
 //! Where cubes and learnt clauses are written.
 #![tactic(auto)]
 
-ghost use Rattle.std.specs.Prelude.{◌≡◌, Bool, false, List, is_ok};
+ghost use Rattle.std.specs.Prelude.{◌≡◌, Bool, true, false, List, [], ◌∷◌, ◌++◌, ℤ, is_ok};
+ghost use Rattle.outlet.specs.declared.kinds.Kind.{Kind};
 ghost use Rattle.outlet.specs.Entries.{Entry, entry_of, put_reply, put_after, OutletLaws};
 
-pub mod kinds;
-pub mod numbers;
+mod kinds;
+mod numbers;
 
 pub use kinds::{Kind, Refusal};
 pub use numbers::NumberOutlet;
@@ -17,6 +18,9 @@ pub trait Outlet {
     // Whether an entry fits after these; no put changes that.
     ghost fitting: { Self → List Entry → Entry → Bool };
 
+    // The same by what is left of its memory.
+    ghost has_room: { Self → Kind → List ℤ → Bool };
+
     // What is the same of an outlet's memory before and after a put.
     ghost keeps: { Self → Self → Type 0 };
 
@@ -24,12 +28,27 @@ pub trait Outlet {
     ghost laws: { OutletLaws means keeps };
 
     fn fits(&self, kind: Kind, lits: &[i32]) -> bool
-        ensures { (es : List Entry) → means self.now es → result ≡ fitting self.now es (entry_of kind lits.now) };
+        ensures room { result ≡ has_room self.now kind lits.now }
+        ensures means { (es : List Entry) → means self.now es → result ≡ fitting self.now es (entry_of kind lits.now) };
+
+    // Writes an entry that fits.
+    fn append(&mut self, kind: Kind, lits: &[i32])
+        requires { has_room self.old kind lits.now ≡ true }
+        ensures entries { (es : List Entry) → means self.old es → means self.new (es ++ entry_of kind lits.now ∷ []) }
+        ensures fitting { fitting self.new ≡ fitting self.old }
+        ensures kept { keeps self.old self.new };
 
     fn put(&mut self, kind: Kind, lits: &[i32]) -> Result<(), Refusal>
         ensures value { (es : List Entry) → means self.old es → result ≡ put_reply (fitting self.old es (entry_of kind lits.now)) }
         ensures entries { (es : List Entry) → means self.old es → means self.new (put_after (fitting self.old es (entry_of kind lits.now)) es (entry_of kind lits.now)) }
         ensures fitting { fitting self.new ≡ fitting self.old }
         ensures kept { keeps self.old self.new }
-        ensures refused { is_ok result ≡ false → self.new ≡ self.old };
+        ensures refused { is_ok result ≡ false → self.new ≡ self.old }
+    {
+        if !self.fits(kind, lits) {
+            return Err(Refusal::NoRoom);
+        }
+        self.append(kind, lits);
+        Ok(())
+    }
 }

@@ -28,8 +28,8 @@ accepted_from text cs cs' os os' k h = record {
   rules = h.rules;
   spelled = h.spelled;
   counted = h.counted;
-  clauses_are = ap (take k.clause_numbers) h.clauses_laid ∙ front (numbers (clauses h.rules)) cs _ (ap (λ c. c.clause_numbers) h.counted);
-  odds_are = ap (take k.odd_numbers) h.odds_laid ∙ front (numbers (odds h.rules)) os _ (ap (λ c. c.odd_numbers) h.counted);
+  clauses_are = ap (take k.clauses.numbers) h.clauses_laid ∙ front (numbers (clauses h.rules)) cs _ (ap (λ c. c.clauses.numbers) h.counted);
+  odds_are = ap (take k.odds.numbers) h.odds_laid ∙ front (numbers (odds h.rules)) os _ (ap (λ c. c.odds.numbers) h.counted);
 }
 
 pub read_from : (text : List ℕ) (cs cs' os os' : List ℤ) (r : Result Counts Fault) → ReadAs text cs cs' os os' r → IfOk r (λ k. ReadFrom text k cs' os')
@@ -43,7 +43,7 @@ fits_in n cs zs e s =
     omega (arith, m, le)
 
 module _ {text : List ℕ} {k : Counts} {cs os : List ℤ} (h : ReadFrom text k cs os) where
-  filled : Filled k.variables h.rules (take k.clause_numbers cs) (take k.odd_numbers os)
+  filled : Filled k.variables h.rules (take k.clauses.numbers cs) (take k.odds.numbers os)
   filled = record {
     ruled = record {
       few_vars = subst (λ n. n ≤ 2048) (sym (ap (λ c. c.variables) h.counted)) h.spelled.few_variables;
@@ -56,15 +56,15 @@ module _ {text : List ℕ} {k : Counts} {cs os : List ℤ} (h : ReadFrom text k 
 
   long : long_enough k cs os ≡ true
   long =
-      and_from (leb k.clause_numbers (length cs)) (leb k.odd_numbers (length os))
-      (le-leb k.clause_numbers (length cs) (fits_in k.clause_numbers cs _ h.clauses_are (ap (λ c. c.clause_numbers) h.counted)))
-      (le-leb k.odd_numbers (length os) (fits_in k.odd_numbers os _ h.odds_are (ap (λ c. c.odd_numbers) h.counted)))
+      and_from (leb k.clauses.numbers (length cs)) (leb k.odds.numbers (length os))
+      (le-leb k.clauses.numbers (length cs) (fits_in k.clauses.numbers cs _ h.clauses_are (ap (λ c. c.clauses.numbers) h.counted)))
+      (le-leb k.odds.numbers (length os) (fits_in k.odds.numbers os _ h.odds_are (ap (λ c. c.odds.numbers) h.counted)))
 
   pub opens : used_fault k cs os ≡ none
   opens = cond-true (long_enough k cs os) _ (some (19, 0)) long ∙ filled_open _ _ _ _ filled
 
   -- the store is satisfied by just what satisfies the text's rules
-  pub means_text : (s : Store) → ((rs : List Rule) → Filled k.variables rs (take k.clause_numbers cs) (take k.odd_numbers os) → MeansRules s k.variables rs) → MeansText text s
+  pub means_text : (s : Store) → ((rs : List Rule) → Filled k.variables rs (take k.clauses.numbers cs) (take k.odds.numbers os) → MeansRules s k.variables rs) → MeansText text s
   means_text s m = record {
     same = λ n rs sp.
         let one = reading_right.one_question text n h.variables rs h.rules sp h.spelled in
@@ -73,15 +73,15 @@ module _ {text : List ℕ} {k : Counts} {cs os : List ℤ} (h : ReadFrom text k 
   }
 
   -- each table holds as many rules as were read
-  pub clauses_counted : length (parts (take k.clause_numbers cs)) ≡ k.clauses
+  pub clauses_counted : length (parts (take k.clauses.numbers cs)) ≡ k.clauses.rules
   clauses_counted =
       ap (λ t. length (parts t)) h.clauses_are
-      ∙ (ap length (parts_numbers h.variables (clauses h.rules) (clauses_fit h.variables h.rules h.spelled.fit)) ∙ sym (ap (λ c. c.clauses) h.counted))
+      ∙ (ap length (parts_numbers h.variables (clauses h.rules) (clauses_fit h.variables h.rules h.spelled.fit)) ∙ sym (ap (λ c. c.clauses.rules) h.counted))
 
-  pub odds_counted : length (parts (take k.odd_numbers os)) ≡ k.odds
+  pub odds_counted : length (parts (take k.odds.numbers os)) ≡ k.odds.rules
   odds_counted =
       ap (λ t. length (parts t)) h.odds_are
-      ∙ (ap length (parts_numbers h.variables (odds h.rules) (odds_fit h.variables h.rules h.spelled.fit)) ∙ sym (ap (λ c. c.odds) h.counted))
+      ∙ (ap length (parts_numbers h.variables (odds h.rules) (odds_fit h.variables h.rules h.spelled.fit)) ∙ sym (ap (λ c. c.odds.rules) h.counted))
 
 pub made_opens : (text : List ℕ) (cs os : List ℤ) (r : Result Counts Fault) → IfOk r (λ k. ReadFrom text k cs os) → IfOk r (λ k. used_fault k cs os ≡ none)
 made_opens text cs os (Ok k) h = opens h

@@ -14,16 +14,16 @@ pub record ReadFrom (text : List ℕ) (k : Counts) (cs os : List ℤ) : Type 0 w
   pub rules : List Rule
   pub spelled : Spells text variables rules
   pub counted : k ≡ counts_of (record { variables = variables; rules = rules })
-  pub clauses_are : take k.clause_numbers cs ≡ numbers (clauses rules)
-  pub odds_are : take k.odd_numbers os ≡ numbers (odds rules)
+  pub clauses_are : take k.clauses.numbers cs ≡ numbers (clauses rules)
+  pub odds_are : take k.odds.numbers os ≡ numbers (odds rules)
 
 -- the tables are as long as their used parts
 abbrev pub long_enough : Counts → List ℤ → List ℤ → Bool
-long_enough k cs os = nat_le k.clause_numbers (length cs) && nat_le k.odd_numbers (length os)
+long_enough k cs os = nat_le k.clauses.numbers (length cs) && nat_le k.odds.numbers (length os)
 
 -- what opening the used parts refuses: number and index
 abbrev pub used_fault : Counts → List ℤ → List ℤ → Option (ℕ × ℕ)
-used_fault k cs os = cond (long_enough k cs os) (both_fault k.variables (take k.clause_numbers cs) (take k.odd_numbers os)) (some (19, 0))
+used_fault k cs os = cond (long_enough k cs os) (both_fault k.variables (take k.clauses.numbers cs) (take k.odds.numbers os)) (some (19, 0))
 
 -- A store means what a text spells: its satisfying assignments are exactly those of the text's rules.
 pub record MeansText (text : List ℕ) (s : Store) : Type 0 where
@@ -32,5 +32,5 @@ pub record MeansText (text : List ℕ) (s : Store) : Type 0 where
 -- and the stores of the clauses and of the odd rules count what was read
 pub record CountedBy (k : Counts) (c o : Store) : Type 0 where
   pub variables : c.n ≡ k.variables
-  pub clause_count : c.m ≡ k.clauses
-  pub odd_count : o.m ≡ k.odds
+  pub clause_count : c.m ≡ k.clauses.rules
+  pub odd_count : o.m ≡ k.odds.rules

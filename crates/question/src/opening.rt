@@ -53,8 +53,8 @@ pub fn open<'a>(counts: Counts, clauses: &'a [i32], odds: &'a [i32]) -> Tables<'
     ensures counts { (text : List ℕ) → ReadFrom text counts clauses.now odds.now → CountedBy counts (table_store result.clauses) (table_store result.odds) }
 {
     Tables::open(
-        used(clauses, counts.clause_numbers),
-        used(odds, counts.odd_numbers),
+        used(clauses, counts.clauses.numbers),
+        used(odds, counts.odds.numbers),
         counts.variables,
     )
 }

@@ -4,7 +4,8 @@ use Rattle.rules.specs.declared.fault.Fault.{Fault}
 use Rattle.rules.specs.declared.fault.Reason.TheVariants.{Short}
 use Rattle.rules.specs.Rules.{clauses, odds, numbers}
 use Rattle.reader.specs.declared.counts.Counts.{Counts}
-use Rattle.reader.specs.Reading.{faulty, Question, parse, roomy, counts_of, answer, laid, filled}
+use Rattle.rules.specs.Faults.{faulty}
+use Rattle.reader.specs.Reading.{Question, parse, roomy, counts_of, answer, laid, filled}
 use Rattle.reader.specs.Theorem.{ReadAs}
 use Rattle.reader.proofs.Spelled.{reading_right}
 

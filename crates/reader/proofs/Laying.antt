@@ -1,11 +1,12 @@
 -- One table, filled from its start.
-use Rattle.std.proofs.Common.{◌≡◌, ℕ, ◌+◌, ◌<◌, ◌≤◌, Bool, true, false, List, [], ◌∷◌, ◌++◌, length, take, drop, set, ℤ, codes, sym, refl, ap, ◌∙◌, subst, append_assoc, append-nil, arith, length-append, take-append-drop}
+use Rattle.std.proofs.Common.{◌≡◌, ℕ, ◌+◌, ◌<◌, ◌≤◌, false, List, [], ◌∷◌, ◌++◌, length, take, drop, set, ℤ, codes, sym, ap, ◌∙◌, subst, append_assoc, arith, length-append}
 use Rattle.std.specs.Str.{bytes_eq}
 use Rattle.std.proofs.lemmas.List.{length-set, length-take-le, take_more_set, drop-set-lt, drop-drop}
-use Rattle.std.proofs.lemmas.Bool.{cond-true, cond-false}
+use Rattle.std.proofs.lemmas.Bool.{cond-false}
+use Rattle.rules.specs.declared.kind.Kind.{Kind}
+use Rattle.rules.specs.declared.kind.Kind.TheVariants.{Clause, Odd}
 use Rattle.reader.specs.Tokens.{Token, token}
-use Rattle.reader.specs.Reading.{laid}
-use Rattle.reader.specs.Filling.{number_in, still_odd, goes_to, sent_by}
+use Rattle.reader.specs.Filling.{number_in, kind_after, goes_to, sent_by}
 
 -- of whole, which is laid into the table start, left is still to be written, from the place at on
 pub record Laying (start table : List ℤ) (at : ℕ) (whole left : List ℤ) : Type 0 where
@@ -13,9 +14,6 @@ pub record Laying (start table : List ℤ) (at : ℕ) (whole left : List ℤ) : 
   pub back : drop at table ≡ drop at start
   pub long : length table ≡ length start
   pub within : at ≤ length table
-
-pub laying_none : (table whole : List ℤ) → Laying table table 0 whole whole
-laying_none table whole = record { front = refl; back = refl; long = refl; within = omega arith }
 
 module _ {start table : List ℤ} {at : ℕ} {whole : List ℤ} where
   pub laying_same : {left left' : List ℤ} → left ≡ left' → Laying start table at whole left → Laying start table at whole left'
@@ -34,19 +32,22 @@ module _ {start table : List ℤ} {at : ℕ} {whole : List ℤ} where
         within = omega (arith, room, length-set table at z);
       }
 
-  pub laying_more : {z : ℤ} {left : List ℤ} (y : ℤ) → y ≡ z → length whole ≤ length start → Laying start table at whole (z ∷ left) → Laying start (set table at y) (at + 1) whole left
-  laying_more {z} {left} y same fits old = subst (λ x. Laying start (set table at x) (at + 1) whole left) (sym same) (laying_next fits old)
-
-  pub laying_all : Laying start table at whole [] → table ≡ laid whole start
-  laying_all old =
-      let front : take at table ≡ whole = sym (append-nil (take at table)) ∙ old.front in
-      let size : at ≡ length whole = sym (sym (ap length front) ∙ length-take-le at table old.within) in
-      sym (take-append-drop at table) ∙ (λ i. front i ++ (old.back ∙ ap (λ k. drop k start) size) i)
-
 -- ---- what one word sends
-module _ (which k : Bool) (p : ℕ) (w : List ℕ) (ts : List Token) where
-  pub sent_odd : true ≡ bytes_eq w (codes "odd") → sent_by which k (token p w ∷ ts) ≡ sent_by which true ts
-  sent_odd e = cond-true (bytes_eq w (codes "odd")) _ _ (sym e)
+own : (which k : Kind) (z : ℤ) (zs : List ℤ) → k ≡ which → goes_to which k z zs ≡ z ∷ zs
+own Clause k z zs e = ap (λ j. goes_to Clause j z zs) e
+own Odd k z zs e = ap (λ j. goes_to Odd j z zs) e
 
-  pub sent_number : false ≡ bytes_eq w (codes "odd") → sent_by which k (token p w ∷ ts) ≡ goes_to which k (number_in w) (sent_by which (still_odd k (number_in w)) ts)
+module _ {start table : List ℤ} {at : ℕ} {whole : List ℤ} (which k : Kind) (z : ℤ) (zs : List ℤ) (old : Laying start table at whole (goes_to which k z zs)) where
+  -- a number that goes into the table
+  pub laying_own : k ≡ which → length whole ≤ length start → {table' : List ℤ} {at' : ℕ} (y : ℤ) → y ≡ z → table' ≡ set table at y → at' ≡ at + 1 → Laying start table' at' whole zs
+  laying_own e fits {table'} {at'} y same t a =
+      subst (λ i. Laying start table' i whole zs) (sym a)
+      (subst (λ x. Laying start x (at + 1) whole zs) (sym (t ∙ ap (set table at) same)) (laying_next fits (laying_same (own which k z zs e) old)))
+
+  -- or into the other one
+  pub laying_other : goes_to which k z zs ≡ zs → {table' : List ℤ} {at' : ℕ} → table' ≡ table → at' ≡ at → Laying start table' at' whole zs
+  laying_other e {table'} {at'} t a = subst (λ i. Laying start table' i whole zs) (sym a) (subst (λ x. Laying start x at whole zs) (sym t) (laying_same e old))
+
+module _ (which k : Kind) (p : ℕ) (w : List ℕ) (ts : List Token) where
+  pub sent_number : false ≡ bytes_eq w (codes "odd") → sent_by which k (token p w ∷ ts) ≡ goes_to which k (number_in w) (sent_by which (kind_after k (number_in w)) ts)
   sent_number e = cond-false (bytes_eq w (codes "odd")) _ _ (sym e)

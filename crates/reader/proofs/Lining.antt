@@ -1,20 +1,17 @@
 -- The search for the header, from line to line.
-use Rattle.std.proofs.Common.{◌≡◌, ℕ, suc, ◌+◌, ◌-◌, ◌<◌, ◌≤◌, min, true, false, cond, not, eqb, List, [], ◌∷◌, length, take, drop, Some, None, Ok, Err, Option, Result, sym, refl, ap, ◌∙◌, subst, ⊎_elim, one-add, arith}
+use Rattle.std.proofs.Common.{◌≡◌, ℕ, suc, ◌+◌, ◌-◌, ◌<◌, ◌≤◌, min, true, false, cond, not, eqb, List, [], ◌∷◌, length, take, drop, Some, None, Ok, Err, Option, Result, sym, refl, ap, ◌∙◌, ⊎_elim, one-add, arith}
 use native.Mathlib.Nat.{min-eq_left, min-eq_right}
 use Rattle.std.proofs.lemmas.List.{drop-drop, drop_all, length-drop, length-take-le, take_all}
 use Rattle.std.proofs.lemmas.List.Sums.{prefix_len-le-length}
 use Rattle.std.proofs.lemmas.Bool.{cases_Bool, cases_lt, cond-true, cond-false}
 use Rattle.rules.specs.declared.fault.Fault.{Fault}
-use Rattle.rules.specs.declared.fault.Reason.TheVariants.{Header}
-use Rattle.reader.specs.declared.cursor.Mode.{Mode}
 use Rattle.reader.specs.declared.cursor.Mode.TheVariants.{Start}
-use Rattle.reader.specs.declared.cursor.Until.TheVariants.{Feed}
 use Rattle.reader.specs.declared.parts.Header.{Header as Headline}
 use Rattle.reader.specs.Lines.{lines, onto, words}
-use Rattle.reader.specs.Runs.{goes, run}
-use Rattle.reader.specs.Tokens.{tokens, ahead}
-use Rattle.reader.specs.Reading.{faulty, Head, head_of, found_at, is_silent, find_header}
-use Rattle.reader.specs.Heads.{header_result}
+use Rattle.reader.specs.Runs.{line_len}
+use Rattle.reader.specs.Tokens.{Token, tokens, ahead}
+use Rattle.reader.specs.Reading.{Head, head_of, found_at, is_silent, find_header}
+use Rattle.reader.specs.Heads.{HeaderIs}
 use Rattle.reader.specs.Turns.{HeaderRead}
 use Rattle.reader.proofs.Walks.{nothing_ahead}
 
@@ -23,38 +20,38 @@ cut_more : (b : ℕ) (bs l : List ℕ) (ls : List (List ℕ)) → eqb b 10 ≡ f
 cut_more b bs l ls e h = simp e (ap (onto b) h)
 
 -- a line feed ends it
-pub first_line : (bs : List ℕ) → run Feed bs < length bs → lines bs ≡ take (run Feed bs) bs ∷ lines (drop (suc (run Feed bs)) bs)
+pub first_line : (bs : List ℕ) → line_len bs < length bs → lines bs ≡ take (line_len bs) bs ∷ lines (drop (suc (line_len bs)) bs)
 first_line [] h = absurd (omega arith)
 first_line (b ∷ bs) h = ⊎_elim (at_feed b bs) (λ e. on b bs e h (first_line bs)) (cases_Bool (eqb b 10))
   where
-    at_feed : (b : ℕ) (bs : List ℕ) → eqb b 10 ≡ true → lines (b ∷ bs) ≡ take (run Feed (b ∷ bs)) (b ∷ bs) ∷ lines (drop (suc (run Feed (b ∷ bs))) (b ∷ bs))
+    at_feed : (b : ℕ) (bs : List ℕ) → eqb b 10 ≡ true → lines (b ∷ bs) ≡ take (line_len (b ∷ bs)) (b ∷ bs) ∷ lines (drop (suc (line_len (b ∷ bs))) (b ∷ bs))
     at_feed b bs e = simp e
 
-    on : (b : ℕ) (bs : List ℕ) → eqb b 10 ≡ false → run Feed (b ∷ bs) < length (b ∷ bs) → (run Feed bs < length bs → lines bs ≡ take (run Feed bs) bs ∷ lines (drop (suc (run Feed bs)) bs)) → lines (b ∷ bs) ≡ take (run Feed (b ∷ bs)) (b ∷ bs) ∷ lines (drop (suc (run Feed (b ∷ bs))) (b ∷ bs))
+    on : (b : ℕ) (bs : List ℕ) → eqb b 10 ≡ false → line_len (b ∷ bs) < length (b ∷ bs) → (line_len bs < length bs → lines bs ≡ take (line_len bs) bs ∷ lines (drop (suc (line_len bs)) bs)) → lines (b ∷ bs) ≡ take (line_len (b ∷ bs)) (b ∷ bs) ∷ lines (drop (suc (line_len (b ∷ bs))) (b ∷ bs))
     on b bs e h go =
-        let k : run Feed (b ∷ bs) ≡ suc (run Feed bs) = ap (λ t. cond (not t) (1 + run Feed bs) 0) e ∙ one-add (run Feed bs) in
-        let lt : run Feed bs < length bs = omega arith in
+        let k : line_len (b ∷ bs) ≡ suc (line_len bs) = ap (λ t. cond (not t) (1 + line_len bs) 0) e ∙ one-add (line_len bs) in
+        let lt : line_len bs < length bs = omega arith in
         cut_more b bs _ _ e (go lt) ∙ (λ i. take (sym k i) (b ∷ bs) ∷ lines (drop (suc (sym k i)) (b ∷ bs)))
 
 -- or the text does
-pub only_line : (bs : List ℕ) → run Feed bs ≡ length bs → lines bs ≡ bs ∷ []
+pub only_line : (bs : List ℕ) → line_len bs ≡ length bs → lines bs ≡ bs ∷ []
 only_line [] h = refl
 only_line (b ∷ bs) h = ⊎_elim (at_feed b bs h) (λ e. cut_more b bs bs [] e (only_line bs (shorter b bs e h))) (cases_Bool (eqb b 10))
   where
-    at_feed : (b : ℕ) (bs : List ℕ) → run Feed (b ∷ bs) ≡ length (b ∷ bs) → eqb b 10 ≡ true → lines (b ∷ bs) ≡ (b ∷ bs) ∷ []
-    at_feed b bs h e = let z : 0 ≡ length (b ∷ bs) = sym (ap (λ t. cond (not t) (1 + run Feed bs) 0) e) ∙ h in absurd (omega arith)
+    at_feed : (b : ℕ) (bs : List ℕ) → line_len (b ∷ bs) ≡ length (b ∷ bs) → eqb b 10 ≡ true → lines (b ∷ bs) ≡ (b ∷ bs) ∷ []
+    at_feed b bs h e = let z : 0 ≡ length (b ∷ bs) = sym (ap (λ t. cond (not t) (1 + line_len bs) 0) e) ∙ h in absurd (omega arith)
 
-    shorter : (b : ℕ) (bs : List ℕ) → eqb b 10 ≡ false → run Feed (b ∷ bs) ≡ length (b ∷ bs) → run Feed bs ≡ length bs
-    shorter b bs e h = let k : run Feed (b ∷ bs) ≡ suc (run Feed bs) = ap (λ t. cond (not t) (1 + run Feed bs) 0) e ∙ one-add (run Feed bs) in omega arith
+    shorter : (b : ℕ) (bs : List ℕ) → eqb b 10 ≡ false → line_len (b ∷ bs) ≡ length (b ∷ bs) → line_len bs ≡ length bs
+    shorter b bs e h = let k : line_len (b ∷ bs) ≡ suc (line_len bs) = ap (λ t. cond (not t) (1 + line_len bs) 0) e ∙ one-add (line_len bs) in omega arith
 
 -- ---- one line of the search
-module _ (text : List ℕ) (at at' : ℕ) (line : List ℕ) (lt : at < length text) (is_line : line ≡ take (run Feed (drop at text)) (drop at text)) (on : at' ≡ min (at + run Feed (drop at text) + 1) (length text)) where
+module _ (text : List ℕ) (at at' : ℕ) (line : List ℕ) (lt : at < length text) (is_line : line ≡ take (line_len (drop at text)) (drop at text)) (on : at' ≡ min (at + line_len (drop at text) + 1) (length text)) where
   size : ℕ
-  size = run Feed (drop at text)
+  size = line_len (drop at text)
 
   within : size ≤ length (drop at text)
   unfolding size
-  within = prefix_len-le-length (goes Feed) (drop at text)
+  within = prefix_len-le-length ((λ b. not (eqb b 10))) (drop at text)
 
   left : length (drop at text) ≡ length text - at
   left = length-drop at text
@@ -111,18 +108,16 @@ module _ (text : List ℕ) (at at' : ℕ) (line : List ℕ) (lt : at < length te
       by (fed e f) = ap (λ i. ahead text i Start) (sym e)
       by (last e g f) = nothing_ahead text at' Start (omega arith) ∙ sym (nothing_ahead text (at + length line + 1) Start g)
 
-  pub line_told : (r : Result Headline Fault) → false ≡ is_silent line (words line) → r ≡ header_result at (head_of (words line)) → HeaderRead text at at' Start r
-  line_told r q e = subst (HeaderRead text at at' Start) (sym e) (by (head_of (words line)) (told q))
+  pub line_told : (r : Result Headline Fault) → false ≡ is_silent line (words line) → HeaderIs at (head_of (words line)) r → HeaderRead text at (ahead text at' Start) r
+  line_told r q e = by (head_of (words line)) (told q) r e
     where
-      by : (o : Option Head) → find_header (length text) at (lines (drop at text)) ≡ found_at at line o → HeaderRead text at at' Start (header_result at o)
-      by None h = h
-      by (Some h) f = (at + length line + 1, f, goes_on)
-
--- no header at the end of a text
-pub no_line : (text : List ℕ) (at : ℕ) → length text ≤ at → find_header (length text) at (lines (drop at text)) ≡ Err (faulty Header (length text))
-no_line text at h = ap (λ t. find_header (length text) at (lines t)) (drop_all at text h)
+      by : (o : Option Head) → find_header (length text) at (lines (drop at text)) ≡ found_at at line o → (r : Result Headline Fault) → HeaderIs at o r → HeaderRead text at (ahead text at' Start) r
+      by None h (Ok k) e = absurd e
+      by None h (Err f) e = h ∙ ap Err (sym e)
+      by (Some h) f (Ok k) e = (at + length line + 1, f ∙ (λ i. Ok (record { head = record { variables = sym e.0 i; rules = sym e.1 i }; next = at + length line + 1 })), goes_on)
+      by (Some h) f (Err g) e = absurd e
 
 -- a line after it, in the words of the text before it
-pub read_before : (text : List ℕ) (start at at' : ℕ) (m : Mode) (r : Result Headline Fault) → find_header (length text) at (lines (drop at text)) ≡ find_header (length text) start (lines (drop start text)) → HeaderRead text at at' m r → HeaderRead text start at' m r
-read_before text start at at' m (Ok h) e q = (q.0, sym e ∙ q.1, q.2)
-read_before text start at at' m (Err f) e q = sym e ∙ q
+pub read_before : (text : List ℕ) (start at : ℕ) (ts : List Token) (r : Result Headline Fault) → find_header (length text) at (lines (drop at text)) ≡ find_header (length text) start (lines (drop start text)) → HeaderRead text at ts r → HeaderRead text start ts r
+read_before text start at ts (Ok h) e q = (q.0, sym e ∙ q.1, q.2)
+read_before text start at ts (Err f) e q = sym e ∙ q

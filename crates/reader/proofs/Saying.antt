@@ -4,7 +4,7 @@ use Rattle.std.proofs.lemmas.Bool.{cond-true, cond-false, ne_eqb, le-ltb}
 use Rattle.rules.specs.declared.fault.Reason.TheVariants.{Variable, Repeated}
 use Rattle.rules.specs.Literals.{place}
 use Rattle.reader.specs.Reading.{wrong, gives, ends, literal_says}
-use Rattle.reader.specs.Marks.{Marked, grown}
+use Rattle.reader.specs.Marks.{Marked}
 use Rattle.reader.proofs.Stamps.{named_is, place_is, marked_more}
 
 module _ {ss : List ℕ} {top : ℕ} (n : ℕ) {ls : List ℤ} (z : ℤ) (m : Marked ss top ls) (some : 0 < nat_abs z) (low : nat_abs z ≤ n) (few : n ≤ 2048) where
@@ -23,10 +23,8 @@ module _ {ss : List ℕ} {top : ℕ} (n : ℕ) {ls : List ℤ} (z : ℤ) (m : Ma
   pub says_repeated : eqb (get_or ss (nat_abs z - 1) 0) top ≡ true → wrong Repeated ≡ literal_says n ls (Some z)
   says_repeated e = sym (says_by ∙ cond-true _ (wrong Repeated) (gives z) e)
 
-  pub says_given : eqb (get_or ss (nat_abs z - 1) 0) top ≡ false → cond (eqb (nat_abs z) 0) ends (gives z) ≡ literal_says n ls (Some z)
-  says_given e = cond-false (eqb (nat_abs z) 0) ends (gives z) (ne_eqb (nat_abs z) 0 (λ q. omega arith)) ∙ sym (says_by ∙ cond-false _ (wrong Repeated) (gives z) e)
+  pub says_given : eqb (get_or ss (nat_abs z - 1) 0) top ≡ false → gives z ≡ literal_says n ls (Some z)
+  says_given e = sym (says_by ∙ cond-false _ (wrong Repeated) (gives z) e)
 
-  pub marked_grown : length ss ≡ 2048 → Marked (set ss (nat_abs z - 1) top) top (grown ls z)
-  marked_grown long =
-      subst (Marked (set ss (nat_abs z - 1) top) top) (sym (cond-false (eqb (nat_abs z) 0) ls (ls ++ (z ∷ [])) (ne_eqb (nat_abs z) 0 (λ q. omega arith))))
-      (subst (λ i. Marked (set ss i top) top (ls ++ (z ∷ []))) at_place (marked_more z long within m))
+  pub marked_grown : length ss ≡ 2048 → Marked (set ss (nat_abs z - 1) top) top (ls ++ (z ∷ []))
+  marked_grown long = subst (λ i. Marked (set ss i top) top (ls ++ (z ∷ []))) at_place (marked_more z long within m)

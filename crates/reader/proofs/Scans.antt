@@ -8,6 +8,8 @@ use Rattle.std.proofs.lemmas.Slice.Eq.{bytes_eq-Decides}
 use Rattle.std.proofs.lemmas.List.{append-nil, append_assoc}
 use Rattle.rules.specs.declared.fault.Fault.{Fault}
 use Rattle.rules.specs.declared.fault.Reason.TheVariants.{Variable, Repeated}
+use Rattle.rules.specs.declared.kind.Kind.{Kind}
+use Rattle.rules.specs.declared.kind.Kind.TheVariants.{Clause, Odd}
 use Rattle.rules.specs.Literals.{place, Literal, Each}
 use Rattle.rules.specs.Rules.{Rule, clause, odd, literals, Apart, Fits}
 use Rattle.reader.specs.Spelling.{rule_words}
@@ -73,21 +75,21 @@ pub scan_step : (n end : ℕ) (s : Stage) (t : Token) (ts : List Token) → scan
 unfolding scan
 scan_step n end s t ts = refl
 
-follow_between : (go : Stage → Result (List Rule) Fault) (at : ℕ) (x : Said) → follow go between at x ≡ follow go (inside false []) at x
+follow_between : (go : Stage → Result (List Rule) Fault) (at : ℕ) (x : Said) → follow go between at x ≡ follow go (inside Clause []) at x
 follow_between go at (wrong r) = refl
 follow_between go at parity = refl
 follow_between go at (gives z) = refl
 follow_between go at ends = refl
 
 -- between two rules a word that is not `odd` is read as inside a clause that has no literal yet
-as_clause : (n end : ℕ) (t : Token) (ts : List Token) → bytes_eq t.bytes (codes "odd") ≡ false → scan n end between (t ∷ ts) ≡ scan n end (inside false []) (t ∷ ts)
+as_clause : (n end : ℕ) (t : Token) (ts : List Token) → bytes_eq t.bytes (codes "odd") ≡ false → scan n end between (t ∷ ts) ≡ scan n end (inside Clause []) (t ∷ ts)
 as_clause n end t ts e =
     scan_step n end between t ts
     ∙ ap (follow (λ u. scan n end u ts) between t.place) (cond-false (bytes_eq t.bytes (codes "odd")) _ _ e)
     ∙ follow_between (λ u. scan n end u ts) t.place (literal_says n [] (signed_numeral t.bytes))
-    ∙ sym (scan_step n end (inside false []) t ts)
+    ∙ sym (scan_step n end (inside Clause []) t ts)
 
-as_odd : (n end : ℕ) (t : Token) (ts : List Token) → bytes_eq t.bytes (codes "odd") ≡ true → scan n end between (t ∷ ts) ≡ scan n end (inside true []) ts
+as_odd : (n end : ℕ) (t : Token) (ts : List Token) → bytes_eq t.bytes (codes "odd") ≡ true → scan n end between (t ∷ ts) ≡ scan n end (inside Odd []) ts
 as_odd n end t ts e =
     scan_step n end between t ts
     ∙ ap (follow (λ u. scan n end u ts) between t.place) (cond-true (bytes_eq t.bytes (codes "odd")) _ _ e)
@@ -101,7 +103,7 @@ pub record Between (n : ℕ) (ws : List (List ℕ)) (rs : List Rule) : Type 0 wh
   pub fit : FitAll n rs
 
 -- inside a rule: its other literals, and the rules after it
-pub record Inside (n : ℕ) (k : Bool) (done : List ℤ) (ws : List (List ℕ)) (rs : List Rule) : Type 0 where
+pub record Inside (n : ℕ) (k : Kind) (done : List ℤ) (ws : List (List ℕ)) (rs : List Rule) : Type 0 where
   pub more : List ℤ
   pub others : List Rule
   pub splits : rs ≡ rule_of k (done ++ more) ∷ others
@@ -112,14 +114,14 @@ pub record Inside (n : ℕ) (k : Bool) (done : List ℤ) (ws : List (List ℕ)) 
 rule_end : (ls : List ℤ) (ws : List (List ℕ)) → (map signed_decimal ls ++ (codes "0" ∷ [])) ++ ws ≡ map signed_decimal ls ++ (codes "0" ∷ ws)
 rule_end ls ws = append_assoc (map signed_decimal ls) (codes "0" ∷ []) ws
 
-clause_between : (n : ℕ) (ws : List (List ℕ)) (rs : List Rule) → Inside n false [] ws rs → Between n ws rs
+clause_between : (n : ℕ) (ws : List (List ℕ)) (rs : List Rule) → Inside n Clause [] ws rs → Between n ws rs
 clause_between n ws rs i =
     record {
       spelled = i.spelled ∙ sym (rule_end i.more (flat_map rule_words i.others)) ∙ ap (flat_map rule_words) (sym i.splits);
       fit = subst (FitAll n) (sym i.splits) (i.fits, i.rest);
     }
 
-odd_between : (n : ℕ) (w : List ℕ) (ws : List (List ℕ)) (rs : List Rule) → w ≡ codes "odd" → Inside n true [] ws rs → Between n (w ∷ ws) rs
+odd_between : (n : ℕ) (w : List ℕ) (ws : List (List ℕ)) (rs : List Rule) → w ≡ codes "odd" → Inside n Odd [] ws rs → Between n (w ∷ ws) rs
 odd_between n w ws rs e i =
     record {
       spelled =
@@ -131,9 +133,9 @@ odd_between n w ws rs e i =
 
 pub record Scanned (n end : ℕ) (ts : List Token) : Type 0 where
   pub outer : (rs : List Rule) → scan n end between ts ≡ Ok rs → Between n (bytes_of ts) rs
-  pub inner : (k : Bool) (done : List ℤ) (rs : List Rule) → Fits n done → scan n end (inside k done) ts ≡ Ok rs → Inside n k done (bytes_of ts) rs
+  pub inner : (k : Kind) (done : List ℤ) (rs : List Rule) → Fits n done → scan n end (inside k done) ts ≡ Ok rs → Inside n k done (bytes_of ts) rs
 
-module _ (n end : ℕ) (w : List ℕ) (at : ℕ) (ts : List Token) (ih : Scanned n end ts) (k : Bool) (done : List ℤ) (rs : List Rule) (fit : Fits n done) where
+module _ (n end : ℕ) (w : List ℕ) (at : ℕ) (ts : List Token) (ih : Scanned n end ts) (k : Kind) (done : List ℤ) (rs : List Rule) (fit : Fits n done) where
   rule_ends : (z : ℤ) → signed_numeral w ≡ Some z → eqb (nat_abs z) 0 ≡ true → (r : Result (List Rule) Fault) → scan n end between ts ≡ r → with_rule (rule_of k done) r ≡ Ok rs → Inside n k done (w ∷ bytes_of ts) rs
   rule_ends z ez e0 (Err f) er e = absurd (no_answer f rs e)
   rule_ends z ez e0 (Ok us) er e =
@@ -187,14 +189,14 @@ scanned_none n end =
 scanned_more : (n end : ℕ) (t : Token) (ts : List Token) → Scanned n end ts → Scanned n end (t ∷ ts)
 scanned_more n end t ts ih = record { outer = λ rs e. by rs (bytes_eq t.bytes (codes "odd")) refl e; inner = deep }
   where
-    deep : (k : Bool) (done : List ℤ) (rs : List Rule) → Fits n done → scan n end (inside k done) (t ∷ ts) ≡ Ok rs → Inside n k done (bytes_of (t ∷ ts)) rs
+    deep : (k : Kind) (done : List ℤ) (rs : List Rule) → Fits n done → scan n end (inside k done) (t ∷ ts) ≡ Ok rs → Inside n k done (bytes_of (t ∷ ts)) rs
     deep k done rs fit e = word_met n end t.bytes t.place ts ih k done rs fit (signed_numeral t.bytes) refl (sym (scan_step n end (inside k done) t ts) ∙ e)
 
     by : (rs : List Rule) (b : Bool) → bytes_eq t.bytes (codes "odd") ≡ b → scan n end between (t ∷ ts) ≡ Ok rs → Between n (bytes_of (t ∷ ts)) rs
     by rs true b e =
         odd_between n t.bytes (bytes_of ts) rs ((bytes_eq-Decides t.bytes (codes "odd")).0 b)
-        (ih.inner true [] rs (tt, tt) (sym (as_odd n end t ts b) ∙ e))
-    by rs false b e = clause_between n (bytes_of (t ∷ ts)) rs (deep false [] rs (tt, tt) (sym (as_clause n end t ts b) ∙ e))
+        (ih.inner Odd [] rs (tt, tt) (sym (as_odd n end t ts b) ∙ e))
+    by rs false b e = clause_between n (bytes_of (t ∷ ts)) rs (deep Clause [] rs (tt, tt) (sym (as_clause n end t ts b) ∙ e))
 
 pub scan_sound : (n end : ℕ) (ts : List Token) → Scanned n end ts
 scan_sound n end [] = scanned_none n end
@@ -205,7 +207,7 @@ no_words : (w : List ℕ) (ws : List (List ℕ)) → [] ≡ w ∷ ws → ⊥
 no_words w ws e = let z : ◌≡◌ {A = ℕ} 0 1 = cc in omega arith
 
 module _ (n end : ℕ) (small : n ≤ 2048) where
-  scan_rule : (ls : List ℤ) (k : Bool) (done : List ℤ) (ts : List Token) (ws : List (List ℕ)) (rs : List Rule) → Fits n (done ++ ls) → bytes_of ts ≡ map signed_decimal ls ++ (codes "0" ∷ ws) → ((us : List Token) → bytes_of us ≡ ws → scan n end between us ≡ Ok rs) → scan n end (inside k done) ts ≡ Ok (rule_of k (done ++ ls) ∷ rs)
+  scan_rule : (ls : List ℤ) (k : Kind) (done : List ℤ) (ts : List Token) (ws : List (List ℕ)) (rs : List Rule) → Fits n (done ++ ls) → bytes_of ts ≡ map signed_decimal ls ++ (codes "0" ∷ ws) → ((us : List Token) → bytes_of us ≡ ws → scan n end between us ≡ Ok rs) → scan n end (inside k done) ts ≡ Ok (rule_of k (done ++ ls) ∷ rs)
   scan_rule [] k done [] ws rs fit e rest = absurd (no_words _ ws e)
   scan_rule [] k done (t ∷ ts) ws rs fit e rest =
       let word : t.bytes ≡ codes "0" = cc in
@@ -248,11 +250,11 @@ module _ (n end : ℕ) (small : n ≤ 2048) where
       let ws = flat_map rule_words rs in
       let words : bytes_of (t ∷ ts) ≡ map signed_decimal ls ++ (codes "0" ∷ ws) = e ∙ rule_end ls ws in
       as_clause n end t ts (clause_first ls t.bytes (bytes_of ts) ws fit.0.0 words)
-      ∙ scan_rule ls false [] (t ∷ ts) ws rs fit.0 words (λ us h. scan_complete rs us fit.1 h)
+      ∙ scan_rule ls Clause [] (t ∷ ts) ws rs fit.0 words (λ us h. scan_complete rs us fit.1 h)
   scan_complete (odd ls ∷ rs) [] fit e = absurd (no_words _ _ e)
   scan_complete (odd ls ∷ rs) (t ∷ ts) fit e =
       let ws = flat_map rule_words rs in
       let word : t.bytes ≡ codes "odd" = cc in
       let left : bytes_of ts ≡ (map signed_decimal ls ++ (codes "0" ∷ [])) ++ ws = cc in
       as_odd n end t ts ((bytes_eq-Decides t.bytes (codes "odd")).1 word)
-      ∙ scan_rule ls true [] ts ws rs fit.0 (left ∙ rule_end ls ws) (λ us h. scan_complete rs us fit.1 h)
+      ∙ scan_rule ls Odd [] ts ws rs fit.0 (left ∙ rule_end ls ws) (λ us h. scan_complete rs us fit.1 h)

@@ -9,7 +9,8 @@ use Rattle.reader.specs.declared.cursor.Mode.TheVariants.{Start}
 use Rattle.reader.specs.Lines.{lines, words, said}
 use Rattle.reader.specs.Spelling.{rule_words, Spells}
 use Rattle.reader.specs.Tokens.{tokens}
-use Rattle.reader.specs.Reading.{Head, Found, head_of, find_header, faulty, between, scan, Question, counted, after_header, parse}
+use Rattle.rules.specs.Faults.{faulty}
+use Rattle.reader.specs.Reading.{Head, Found, head_of, find_header, between, scan, Question, counted, after_header, parse}
 use Rattle.reader.specs.Theorem.{ReadingRight}
 use Rattle.reader.proofs.Texts.{bytes_of, tokens_heard}
 use Rattle.reader.proofs.Headers.{no_answer, Follows, said_follows, head_names, names_head, Cuts, find_sound, find_complete}

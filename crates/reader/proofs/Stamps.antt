@@ -1,5 +1,7 @@
 -- The stamps of the variables of a rule.
-use Rattle.std.proofs.Common.{◌≡◌, ℕ, zero, suc, ◌+◌, ◌<◌, ◌≤◌, Bool, true, false, ◌||◌, eqb, leb, List, [], ◌∷◌, ◌++◌, length, get_or, set, ℤ, pos, negsuc, nat_abs, sym, refl, ap, ◌∙◌, ⊎_elim, arith}
+use Rattle.std.proofs.Common.{◌≡◌, ℕ, zero, suc, ◌+◌, ◌<◌, ◌≤◌, true, ◌||◌, eqb, leb, List, [], ◌∷◌, ◌++◌, length, get_or, set, ℤ, pos, negsuc, nat_abs, sym, refl, ap, ◌∙◌, ⊎_elim, arith}
+use Rattle.std.proofs.Math.Bool.{or-false}
+use Rattle.std.proofs.lemmas.List.Recursion.{or_push}
 use Rattle.std.proofs.lemmas.List.{get_or-set_same, get_or-set_other}
 use Rattle.std.proofs.lemmas.Bool.{and_parts, and_from, leb-true, le-leb, eq-eqb, ne_eqb, cases_eq, or_right}
 use Rattle.rules.specs.Literals.{place}
@@ -29,20 +31,7 @@ pub marked_none : (top : ℕ) (ss : List ℕ) → none_above top ss ≡ true →
 marked_none top ss h = record { told = λ i lt. ne_eqb (get_or ss i 0) (top + 1) (λ e. omega (arith, at_most top ss i h)) }
 
 has_place_push : (i : ℕ) (ls : List ℤ) (z : ℤ) → has_place i (ls ++ (z ∷ [])) ≡ (has_place i ls || eqb (place z) i)
-has_place_push i [] z = or_false (eqb (place z) i)
-  where
-    or_false : (b : Bool) → (b || false) ≡ b
-    or_false true = refl
-    or_false false = refl
-has_place_push i (l ∷ ls) z = ap (λ b. eqb (place l) i || b) (has_place_push i ls z) ∙ or_assoc (eqb (place l) i) (has_place i ls) (eqb (place z) i)
-  where
-    or_assoc : (a b c : Bool) → (a || (b || c)) ≡ ((a || b) || c)
-    or_assoc true b c = refl
-    or_assoc false b c = refl
-
-or_none : (b : Bool) → (b || false) ≡ b
-or_none true = refl
-or_none false = refl
+has_place_push i = or_push (has_place i) (λ l. eqb (place l) i) refl (λ l ls. refl)
 
 -- one literal more
 pub marked_more : {ss : List ℕ} {top : ℕ} {ls : List ℤ} (z : ℤ) → length ss ≡ 2048 → place z < 2048 → Marked ss top ls → Marked (set ss (place z) top) top (ls ++ (z ∷ []))
@@ -56,7 +45,7 @@ marked_more {ss} {top} {ls} z long fits old = record {
       (λ n.
       ap (λ s. eqb s top) (get_or-set_other ss (place z) i top 0 n)
       ∙ (old.told i lt
-      ∙ sym (has_place_push i ls z ∙ (ap (λ b. has_place i ls || b) (ne_eqb (place z) i (λ e. n (sym e))) ∙ or_none (has_place i ls)))))
+      ∙ sym (has_place_push i ls z ∙ (ap (λ b. has_place i ls || b) (ne_eqb (place z) i (λ e. n (sym e))) ∙ or-false (has_place i ls)))))
       (cases_eq i (place z));
 }
 

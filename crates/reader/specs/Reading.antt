@@ -4,16 +4,17 @@ use Rattle.std.specs.Str.{bytes_eq}
 use Rattle.rules.specs.declared.fault.Fault.{Fault}
 use Rattle.rules.specs.declared.fault.Reason.{Reason}
 use Rattle.rules.specs.declared.fault.Reason.TheVariants.{Header, Form, Variable, Repeated, Unended, Count, Short}
+use Rattle.rules.specs.declared.kind.Kind.{Kind}
+use Rattle.rules.specs.declared.kind.Kind.TheVariants.{Clause, Odd}
+use Rattle.rules.specs.Faults.{faulty}
 use Rattle.rules.specs.Literals.{place}
 use Rattle.rules.specs.Rules.{Rule, clause, odd, clauses, odds, numbers}
 use Rattle.reader.specs.declared.cursor.Mode.TheVariants.{Start}
 use Rattle.reader.specs.declared.counts.Counts.{Counts}
+use Rattle.reader.specs.declared.counts.Size.{Size}
 use Rattle.reader.specs.Lines.{lines, words, comment}
 use Rattle.reader.specs.Numerals.{numeral, signed_numeral}
 use Rattle.reader.specs.Tokens.{Token, tokens}
-
-abbrev pub faulty : Reason → ℕ → Fault
-faulty r at = record { reason = r; place = at }
 
 -- ---- the header
 pub record Head : Type 0 where
@@ -54,10 +55,10 @@ find_header end at [] = Err (faulty Header end)
 find_header end at (l ∷ ls) = cond (is_silent l (words l)) (find_header end (at + length l + 1) ls) (found_at at l (head_of (words l)))
 
 -- ---- the rules
--- between two rules, or inside one that is odd or not and has these literals so far
+-- between two rules, or inside one of this kind that has these literals so far
 pub data Stage : Type 0 where
   between : Stage
-  inside : Bool → List ℤ → Stage
+  inside : Kind → List ℤ → Stage
 
 -- what a word says there
 pub data Said : Type 0 where
@@ -79,17 +80,18 @@ abbrev pub says : ℕ → Stage → List ℕ → Said
 says n between w = cond (bytes_eq w (codes "odd")) parity (literal_says n [] (signed_numeral w))
 says n (inside k ls) w = literal_says n ls (signed_numeral w)
 
-abbrev pub is_parity : Stage → Bool
-is_parity between = false
-is_parity (inside k ls) = k
+-- between two rules a word that is not `odd` belongs to a clause
+abbrev pub kind_in : Stage → Kind
+kind_in between = Clause
+kind_in (inside k ls) = k
 
 abbrev pub so_far : Stage → List ℤ
 so_far between = []
 so_far (inside k ls) = ls
 
-abbrev pub rule_of : Bool → List ℤ → Rule
-rule_of false ls = clause ls
-rule_of true ls = odd ls
+abbrev pub rule_of : Kind → List ℤ → Rule
+rule_of Clause ls = clause ls
+rule_of Odd ls = odd ls
 
 abbrev pub with_rule : Rule → Result (List Rule) Fault → Result (List Rule) Fault
 with_rule r (Ok rs) = Ok (r ∷ rs)
@@ -97,9 +99,9 @@ with_rule r (Err f) = Err f
 
 abbrev pub follow : (Stage → Result (List Rule) Fault) → Stage → ℕ → Said → Result (List Rule) Fault
 follow go s at (wrong r) = Err (faulty r at)
-follow go s at parity = go (inside true [])
-follow go s at (gives z) = go (inside (is_parity s) (so_far s ++ (z ∷ [])))
-follow go s at ends = with_rule (rule_of (is_parity s) (so_far s)) (go between)
+follow go s at parity = go (inside Odd [])
+follow go s at (gives z) = go (inside (kind_in s) (so_far s ++ (z ∷ [])))
+follow go s at ends = with_rule (rule_of (kind_in s) (so_far s)) (go between)
 
 abbrev pub at_end : ℕ → Stage → Result (List Rule) Fault
 at_end end between = Ok []
@@ -131,15 +133,12 @@ parse text = after_header text (find_header (length text) 0 (lines text))
 abbrev pub roomy : ℕ → ℕ → List Rule → Bool
 roomy c o rs = nat_le (length (numbers (clauses rs))) c && nat_le (length (numbers (odds rs))) o
 
+-- what a table holds with these rules
+abbrev pub size_of : List (List ℤ) → Size
+size_of ls = record { rules = length ls; numbers = length (numbers ls) }
+
 abbrev pub counts_of : Question → Counts
-counts_of q =
-    record {
-      variables = q.variables;
-      clauses = length (clauses q.rules);
-      odds = length (odds q.rules);
-      clause_numbers = length (numbers (clauses q.rules));
-      odd_numbers = length (numbers (odds q.rules));
-    }
+counts_of q = record { variables = q.variables; clauses = size_of (clauses q.rules); odds = size_of (odds q.rules) }
 
 -- the answer with tables of c and o places
 abbrev pub answer : ℕ → ℕ → ℕ → Result Question Fault → Result Counts Fault

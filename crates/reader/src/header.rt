@@ -1,14 +1,16 @@
 // The header of a rule file, `p cnf V C`.
-ghost use Rattle.std.specs.Prelude.{◌≡◌, ◌≤◌, [], IfOk, Some, codes};
+ghost use Rattle.std.specs.Prelude.{◌≡◌, [], Some, codes};
 ghost use Rattle.std.specs.Str.{bytes_eq};
-ghost use Rattle.reader.specs.Lines.{words, comment};
+ghost use Rattle.std.specs.List.{list_all};
+ghost use Rattle.reader.specs.Lines.{blank, words, comment};
 ghost use Rattle.reader.specs.Runs.{led};
 ghost use Rattle.reader.specs.Reading.{head_of, is_silent, limited as limited_head};
-ghost use Rattle.reader.specs.Heads.{header_result};
+ghost use Rattle.reader.specs.Heads.{HeaderIs};
 
-use crate::cursor::{Until, run_end};
+use crate::cursor::is_blank;
 use crate::numerals::number;
 use crate::parts::Header;
+use crate::runs::{gap_len, word_len};
 use rules::{Fault, Reason};
 
 // The first word of a line, empty where there is none, and the rest of the line.
@@ -16,40 +18,35 @@ fn split_word<'a>(line: &'a [u8]) -> (&'a [u8], &'a [u8])
     ensures words { words line.now ≡ led result.0.now (words result.1.now) }
     ensures none { result.0.now ≡ [] → words line.now ≡ [] }
 {
-    let start = run_end(line, 0, Until::Word);
-    let end = run_end(line, start, Until::Blank);
-    (&line[start..end], &line[end..])
+    let line = &line[gap_len(line)..];
+    line.split_at(word_len(line))
 }
 
 fn is_comment(line: &[u8]) -> bool
     ensures { result ≡ comment line.now }
 {
-    match line {
-        [b'c', ..] => true,
-        _ => false,
-    }
+    matches!(line, [b'c', ..])
+}
+
+fn all_blank(line: &[u8]) -> bool
+    ensures { result ≡ list_all blank line.now }
+{
+    line.iter().all(|b| is_blank(*b))
 }
 
 // Whether a line is blank or a comment.
 pub fn is_skipped(line: &[u8]) -> bool
     ensures { result ≡ is_silent line.now (words line.now) }
 {
-    if is_comment(line) {
-        return true;
-    }
-    run_end(line, 0, Until::Word) == line.len()
+    is_comment(line) || all_blank(line)
 }
 
 // A header within the limits.
 fn limited(variables: u32, rules: u32, place: usize) -> Result<Header, Fault>
-    ensures value { result ≡ header_result place (limited_head (Some variables) (Some rules)) }
-    ensures few { IfOk result (λ h. h.variables ≤ 2048) }
+    ensures { HeaderIs place (limited_head (Some variables) (Some rules)) result }
 {
     if variables > 2048 || rules > 16384 {
-        return Err(Fault {
-            reason: Reason::Header,
-            place,
-        });
+        return Err(Reason::Header.at(place));
     }
     Ok(Header {
         variables: variables as usize,
@@ -58,33 +55,24 @@ fn limited(variables: u32, rules: u32, place: usize) -> Result<Header, Fault>
 }
 
 // `p` and `cnf`, the words that every header begins with.
+// Stays: a header is taken apart by patterns, and a pattern cannot be a parameter.
 fn is_p(word: &[u8]) -> bool
     ensures { result ≡ bytes_eq word.now (codes "p") }
 {
-    let [b'p'] = word else {
-        return false;
-    };
-    true
+    matches!(word, [b'p'])
 }
 
 fn is_cnf(word: &[u8]) -> bool
     ensures { result ≡ bytes_eq word.now (codes "cnf") }
 {
-    let [b'c', b'n', b'f'] = word else {
-        return false;
-    };
-    true
+    matches!(word, [b'c', b'n', b'f'])
 }
 
 // The header that a line is, or a refusal at the line's place.
 pub fn header(line: &[u8], place: usize) -> Result<Header, Fault>
-    ensures value { result ≡ header_result place (head_of (words line.now)) }
-    ensures few { IfOk result (λ h. h.variables ≤ 2048) }
+    ensures { HeaderIs place (head_of (words line.now)) result }
 {
-    let fault = Fault {
-        reason: Reason::Header,
-        place,
-    };
+    let fault = Reason::Header.at(place);
     let (name, rest) = split_word(line);
     if !is_p(name) {
         return Err(fault);

@@ -10,13 +10,14 @@ mod marks;
 mod numerals;
 mod parts;
 mod reading;
+mod runs;
 mod scanning;
 mod steps;
 mod theorem;
 mod words;
 
-pub use counts::Counts;
+pub use counts::{Counts, Size};
 pub use numerals::number;
 pub use reading::read;
-pub use steps::first_line;
+pub use runs::first_line;
 pub use theorem::reading_right;

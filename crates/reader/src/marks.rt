@@ -3,6 +3,7 @@ ghost use Rattle.std.specs.Prelude.{◌≡◌, ℕ, ◌+◌, ◌-◌, ◌^◌, �
 ghost use Rattle.reader.specs.Marks.{none_above, has_place, Marked};
 
 // A stamp for each variable: the rules count up, so that a new rule clears nothing.
+// Stays: a set of the library's would be on the heap.
 #[derive(Drop)]
 pub struct Marks {
     stamps: [usize; 2048],

@@ -36,21 +36,14 @@ fn plain_of(value: Option<u32>) -> Option<i32>
     requires { IfSome value (λ v. v < 1000000000) }
     ensures { result ≡ plain value }
 {
-    match value {
-        None => None,
-        Some(v) => Some(v as i32),
-    }
+    value.map(|v| v as i32)
 }
 
 fn negated_of(value: Option<u32>) -> Option<i32>
     requires { IfSome value (λ v. v < 1000000000) }
     ensures { result ≡ negated value }
 {
-    match value {
-        None => None,
-        Some(0) => None,
-        Some(v) => Some(-(v as i32)),
-    }
+    value.filter(|v| *v != 0).map(|v| -(v as i32))
 }
 
 // A number, or a negative one after `-`; there is no `-0`.

@@ -1,10 +1,14 @@
 // What the parts of the reader hand on.
-use crate::cursor::Mode;
+ghost use Rattle.std.specs.Prelude.{◌≤◌};
+
+use crate::counts::Counts;
+use crate::words::Reader;
+use rules::Kind;
 
 // One rule as it was read: its kind, and how many literals it has.
 #[derive(Clone, Copy)]
 pub struct Shape {
-    pub odd: bool,
+    pub kind: Kind,
     pub literals: usize,
 }
 
@@ -13,22 +17,12 @@ pub struct Shape {
 pub struct Header {
     pub variables: usize,
     pub rules: usize,
+    ghost few: { variables ≤ 2048 },
 }
 
-// What the rules read so far come to: how many there are, and how many numbers a table needs for them.
+// A text that is well formed: what it holds, and a reader that has its rules ahead.
 #[derive(Clone, Copy)]
-pub struct Tally {
-    pub clauses: usize,
-    pub odds: usize,
-    pub clause_numbers: usize,
-    pub odd_numbers: usize,
-}
-
-// A text that is well formed: what it holds, and where its first rule begins.
-#[derive(Clone, Copy)]
-pub struct Plan {
-    pub variables: usize,
-    pub tally: Tally,
-    pub at: usize,
-    pub mode: Mode,
+pub struct Plan<'a> {
+    pub counts: Counts,
+    pub ahead: Reader<'a>,
 }

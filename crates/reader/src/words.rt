@@ -11,7 +11,8 @@ pub struct Word<'a> {
 }
 
 // The text, and the place up to which it is read.
-#[derive(Drop)]
+// Stays: that a step leaves the text alone is a clause of each, since an invariant cannot compare two moments.
+#[derive(Clone, Copy)]
 pub struct Reader<'a> {
     pub(crate) text: &'a [u8],
     pub(crate) at: usize,

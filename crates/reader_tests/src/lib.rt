@@ -187,9 +187,9 @@ mod tests {
         heap: Global,
         table: &[(&'static [u8], &'static str)],
     ) -> Result<(), Fail> {
-        for case in table.iter() {
-            let said = report(heap, case.0)?;
-            assert_eq!(rt; said.as_str(), case.1);
+        for (input, expected) in table {
+            let said = report(heap, input)?;
+            assert_eq!(rt; said.as_str(), *expected);
         }
         Ok(())
     }
@@ -306,10 +306,10 @@ mod tests {
 
     #[test]
     fn long_texts(rt: HostRuntime) -> Result<(), Fail> {
-        for case in LONG.iter() {
-            let input = repeated(rt.alloc(), case.0, case.1, case.2, case.3)?;
+        for (head, piece, times, tail, expected) in &LONG {
+            let input = repeated(rt.alloc(), head, piece, *times, tail)?;
             let said = report(rt.alloc(), input.as_slice())?;
-            assert_eq!(rt; said.as_str(), case.4);
+            assert_eq!(rt; said.as_str(), *expected);
         }
         Ok(())
     }
@@ -323,8 +323,8 @@ mod tests {
         let mut odds = [-9; 4];
         let counts = read(TEXT, &mut clauses, &mut odds)?;
         assert_eq!(rt; counts.variables, 3);
-        assert_eq!(rt; counts.clauses, 2);
-        assert_eq!(rt; counts.odds, 1);
+        assert_eq!(rt; counts.clauses.rules, 2);
+        assert_eq!(rt; counts.odds.rules, 1);
         assert_eq!(rt; clauses, [1, -2, 0, 0, 77, 77]);
         assert_eq!(rt; odds, [3, -1, 0, -9]);
         Ok(())
@@ -335,7 +335,7 @@ mod tests {
         let mut clauses = [77; 4];
         let mut odds = [77; 3];
         let counts = read(TEXT, &mut clauses, &mut odds)?;
-        assert_eq!(rt; counts.clauses, 2);
+        assert_eq!(rt; counts.clauses.rules, 2);
         assert_eq!(rt; clauses, [1, -2, 0, 0]);
         assert_eq!(rt; odds, [3, -1, 0]);
         Ok(())
@@ -346,20 +346,13 @@ mod tests {
     fn tables_too_short(rt: HostRuntime) -> Result<(), Fail> {
         let mut short = [77; 3];
         let mut long = [77; 5];
-        match read(TEXT, &mut short, &mut long) {
-            Ok(_) => return Err(Fail::new("the clauses do not fit")),
-            Err(fault) => {
-                assert_eq!(rt; fault.reason.number(), 17);
-                assert_eq!(rt; fault.place, TEXT.len());
-            }
-        }
+        let refused = Err(Reason::Short.at(TEXT.len()));
+        assert_eq!(rt; Reason::Short.number(), 17);
+        assert_eq!(rt; read(TEXT, &mut short, &mut long), refused);
         assert_eq!(rt; short, [77; 3]);
         assert_eq!(rt; long, [77; 5]);
         let mut none = [77; 2];
-        match read(TEXT, &mut long, &mut none) {
-            Ok(_) => return Err(Fail::new("the odd rules do not fit")),
-            Err(fault) => assert_eq!(rt; fault.reason, Reason::Short),
-        }
+        assert_eq!(rt; read(TEXT, &mut long, &mut none), refused);
         assert_eq!(rt; none, [77; 2]);
         assert_eq!(rt; long, [77; 5]);
         Ok(())
@@ -370,13 +363,8 @@ mod tests {
     fn refused_texts_write_nothing(rt: HostRuntime) -> Result<(), Fail> {
         let mut clauses = [77; 8];
         let mut odds = [77; 8];
-        match read(b"p cnf 3 2\n1 2 0 odd 3 0 4", &mut clauses, &mut odds) {
-            Ok(_) => return Err(Fail::new("4 is above 3")),
-            Err(fault) => {
-                assert_eq!(rt; fault.reason, Reason::Variable);
-                assert_eq!(rt; fault.place, 24);
-            }
-        }
+        let answer = read(b"p cnf 3 2\n1 2 0 odd 3 0 4", &mut clauses, &mut odds);
+        assert_eq!(rt; answer, Err(Reason::Variable.at(24)));
         assert_eq!(rt; clauses, [77; 8]);
         assert_eq!(rt; odds, [77; 8]);
         Ok(())

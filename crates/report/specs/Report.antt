@@ -3,11 +3,11 @@ use Rattle.std.specs.Prelude.{ℕ, cond, List, ◌++◌, length, take, drop, Som
 use Rattle.std.specs.Str.{bytes_eq}
 use Rattle.rules.specs.declared.fault.Fault.{Fault}
 use Rattle.rules.specs.declared.fault.Reason.TheVariants.{Input}
-use Rattle.rules.specs.Faults.{number_of}
 use Rattle.reader.specs.declared.counts.Counts.{Counts}
 use Rattle.reader.specs.Numerals.{numeral}
 use Rattle.reader.specs.Runs.{line_of, after_line}
-use Rattle.reader.specs.Reading.{faulty, parse, answer}
+use Rattle.rules.specs.Faults.{number_of, faulty}
+use Rattle.reader.specs.Reading.{parse, answer}
 
 -- a refusal: its number and its place
 abbrev pub refused_line : Fault → List ℕ
@@ -30,7 +30,7 @@ abbrev pub depth_in : List ℕ → Option ℕ
 depth_in line = cond (bytes_eq (take 6 line) (codes "depth,")) (depth_by (numeral (drop 6 line))) None
 
 abbrev pub report_line : Result Counts Fault → List ℕ
-report_line (Ok k) = read_line k.variables k.clauses k.odds
+report_line (Ok k) = read_line k.variables k.clauses.rules k.odds.rules
 report_line (Err f) = refused_line f
 
 -- a rule file, whose places count from its own start, read into two tables of 16,384 numbers

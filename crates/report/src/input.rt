@@ -1,35 +1,23 @@
 // An input: a line with the depth, and then a rule file.
 ghost use Rattle.std.specs.Prelude.{◌≡◌, IfOk, string_bytes};
-ghost use Rattle.report.specs.Report.{at_most_deepest, depth_in, text_line, report_of};
+ghost use Rattle.report.specs.Report.{depth_in, text_line, report_of};
 
 use crate::counts::counted;
 use crate::lines::{accepted, refused};
 use question::{open, read};
 use reader::{first_line, number};
-use rules::{Fault, Reason};
+use rules::Reason;
 use std::alloc::{AllocError, Global};
 
 // How many numbers each of the two tables has room for.
 const TABLE: usize = 16_384;
 
-// A depth is at most 2,048.
-fn shallow(depth: u32) -> Option<u32>
-    ensures { result ≡ at_most_deepest depth }
-{
-    if depth > 2048 { None } else { Some(depth) }
-}
-
-// The depth that a line `depth,D` says.
+// The depth that a line `depth,D` says, at most 2,048.
 fn depth(line: &[u8]) -> Option<u32>
     ensures { result ≡ depth_in line.now }
 {
-    let [b'd', b'e', b'p', b't', b'h', b',', digits @ ..] = line else {
-        return None;
-    };
-    let Some(depth) = number(digits) else {
-        return None;
-    };
-    shallow(depth)
+    let digits = line.strip_prefix(b"depth,")?;
+    number(digits).filter(|depth| *depth <= 2048)
 }
 
 // What is written for a rule file.
@@ -51,10 +39,7 @@ fn text_report(heap: Global, text: &[u8]) -> Result<String, AllocError>
 pub fn report(heap: Global, input: &[u8]) -> Result<String, AllocError>
     ensures { IfOk result (λ s. string_bytes s ≡ report_of input.now) }
 {
-    let unfit = Fault {
-        reason: Reason::Input,
-        place: 0,
-    };
+    let unfit = Reason::Input.at(0);
     if input.len() > 65_536 {
         return refused(heap, unfit);
     }

@@ -6,19 +6,22 @@ use crate::counts::Held;
 use rules::Fault;
 use std::alloc::{AllocError, Global};
 
+// Stays: a Display for these two would write the same words in more lines.
 pub fn refused(heap: Global, fault: Fault) -> Result<String, AllocError>
     ensures { IfOk result (λ s. string_bytes s ≡ refused_line fault) }
 {
-    let number = fault.reason.number();
-    let place = fault.place;
+    let Fault { reason, place } = fault;
+    let number = reason.number();
     format!(in heap; "refused,{number},{place}\n")
 }
 
 pub fn accepted(heap: Global, held: Held) -> Result<String, AllocError>
     ensures { IfOk result (λ s. string_bytes s ≡ read_line held.variables held.clauses held.odds) }
 {
-    let variables = held.variables;
-    let clauses = held.clauses;
-    let odds = held.odds;
+    let Held {
+        variables,
+        clauses,
+        odds,
+    } = held;
     format!(in heap; "read,{variables},{clauses},{odds}\n")
 }

@@ -1,5 +1,6 @@
--- The number of each refusal of a text or a table.
+-- Refusals of a text or a table, and the number of each.
 use Rattle.std.specs.Prelude.{ℕ}
+use Rattle.rules.specs.declared.fault.Fault.{Fault}
 use Rattle.rules.specs.declared.fault.Reason.{Reason}
 use Rattle.rules.specs.declared.fault.Reason.TheVariants.{Input, Header, Form, Variable, Repeated, Unended, Count, Short, Limits}
 
@@ -13,3 +14,6 @@ number_of Unended = 15
 number_of Count = 16
 number_of Short = 17
 number_of Limits = 19
+
+abbrev pub faulty : Reason → ℕ → Fault
+faulty r at = record { reason = r; place = at }

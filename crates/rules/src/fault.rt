@@ -1,27 +1,27 @@
 // What is wrong with an input, a rule file or a table, and where.
 ghost use Rattle.std.specs.Prelude.{◌≡◌};
-ghost use Rattle.rules.specs.Faults.{number_of};
+ghost use Rattle.rules.specs.Faults.{number_of, faulty};
 
 #[derive(Clone, Copy, PartialEq, Eq, Debug)]
 pub enum Reason {
     // the program's input is too long, or its first line is out of form
-    Input,
+    Input = 10,
     // the first line that is neither blank nor a comment is no header within the limits
-    Header,
+    Header = 11,
     // a word is out of form
-    Form,
+    Form = 12,
     // a literal's variable is above the number of variables
-    Variable,
+    Variable = 13,
     // a variable stands twice in a rule
-    Repeated,
+    Repeated = 14,
     // the end comes inside a rule
-    Unended,
+    Unended = 15,
     // the rules are not as many as the header says
-    Count,
+    Count = 16,
     // a table is too short for the rules
-    Short,
+    Short = 17,
     // a table or a store has counts beyond the limits, or two stores differ in their variables
-    Limits,
+    Limits = 19,
 }
 
 impl Reason {
@@ -29,16 +29,16 @@ impl Reason {
     pub fn number(self) -> u32
         ensures { result ≡ number_of self }
     {
-        match self {
-            Reason::Input => 10,
-            Reason::Header => 11,
-            Reason::Form => 12,
-            Reason::Variable => 13,
-            Reason::Repeated => 14,
-            Reason::Unended => 15,
-            Reason::Count => 16,
-            Reason::Short => 17,
-            Reason::Limits => 19,
+        self as u32
+    }
+
+    // The refusal for this reason, met at this place.
+    pub fn at(self, place: usize) -> Fault
+        ensures { result ≡ faulty self place }
+    {
+        Fault {
+            reason: self,
+            place,
         }
     }
 }

@@ -7,4 +7,4 @@ pub mod literal;
 
 pub use fault::{Fault, Reason};
 pub use kind::Kind;
-pub use literal::{assign, byte_of, is_true, opposite, place_of, side_of};
+pub use literal::{assign, byte_of, free_count, is_true, opposite, place_of, side_of};

@@ -1,6 +1,6 @@
 // Literals as numbers, and assignments as bytes.
 ghost use Rattle.std.specs.Prelude.{◌≡◌, ◌≤◌, length, neg_ℤ, slice_index, unsigned_abs};
-ghost use Rattle.rules.specs.Literals.{Literal, place, side, opposite, is_true, put};
+ghost use Rattle.rules.specs.Literals.{Literal, place, side, opposite, is_true, put, free};
 
 // The index of the byte of a literal's variable; 0 is read as 1.
 pub fn place_of(literal: i32) -> usize
@@ -48,4 +48,13 @@ pub fn assign(assignment: &mut [u8], literal: i32)
     if place < assignment.len() {
         assignment[place] = side_of(literal);
     }
+}
+
+// How many variables are free.
+#[tactic(auto, using(crate::proofs::Counts::free_counts))]
+pub fn free_count(assignment: &[u8]) -> usize
+    ensures value { result ≡ free assignment.now }
+    ensures few { result ≤ length assignment.now }
+{
+    assignment.iter().filter(|byte| **byte == 0).count()
 }

@@ -11,6 +11,7 @@ use std::io::Read;
 const MOST: usize = 65_537;
 
 // Reads until the input ends or the buffer is full.
+// Stays: the input's memory is fixed, so that no allocation can fail before the question is read.
 fn read_input(rt: &HostRuntime, buffer: &mut [u8]) -> io::Result<usize>
     ensures { IfOk result (λ n. n ≤ length buffer.old) }
 {

@@ -3,6 +3,7 @@ ghost use Rattle.std.specs.Prelude.{◌≡◌};
 ghost use Rattle.stack.specs.Items.{number_of};
 
 // A decision, the trail's height at it, and whether its second side is being searched.
+// Stays: `second` is a flag, since a decision has two sides and no more; an enum would only name the two again.
 #[derive(Clone, Copy, PartialEq, Eq, Debug)]
 pub struct Record {
     pub decision: i32,
@@ -13,7 +14,7 @@ pub struct Record {
 #[derive(Clone, Copy, PartialEq, Eq, Debug)]
 pub enum Refusal {
     // the memory has too few places
-    Short,
+    Short = 22,
 }
 
 impl Refusal {
@@ -21,8 +22,6 @@ impl Refusal {
     pub fn number(self) -> u32
         ensures { result ≡ number_of self }
     {
-        match self {
-            Refusal::Short => 22,
-        }
+        self as u32
     }
 }

@@ -35,9 +35,8 @@ fn round<S: Rules>(store: &S, partial: &mut [u8]) -> bool {
         return false;
     }
     match store.lowest(partial) {
-        Find::Force(literal) => set(partial, literal),
-        Find::Nothing => false,
-        Find::Clash => false,
+        Some(Find::Force(literal)) => set(partial, literal),
+        Some(Find::Clash) | None => false,
     }
 }
 

@@ -1,6 +1,5 @@
 // Tables of looks held to their answers.
-use rules::Kind;
-use rules::Fault;
+use rules::{Fault, Kind};
 use std::process::Abort;
 use std::test::Fail;
 use stores::{Look, Refusal, Rules};

@@ -5,7 +5,7 @@ use stores::{ByLook, Joined, Rules, is_partial};
 use tables::Tables;
 
 // What the walk answers; none where the bytes are no partial.
-fn unsettled<S: Rules>(store: &S, partial: &[u8]) -> Option<usize> {
+fn unsettled<S: Rules>(store: &S, partial: &[u8]) -> Option<Option<usize>> {
     if is_partial(partial, store.variables()) {
         Some(store.unsettled(partial))
     } else {
@@ -14,7 +14,7 @@ fn unsettled<S: Rules>(store: &S, partial: &[u8]) -> Option<usize> {
 }
 
 // A partial of three variables, and what the walk answers.
-type Row = ([u8; 3], usize);
+type Row = ([u8; 3], Option<usize>);
 
 fn hold<S: Rules>(rt: &impl Abort, store: &S, rows: &[Row]) {
     let slow = ByLook { store };
@@ -29,32 +29,32 @@ fn hold<S: Rules>(rt: &impl Abort, store: &S, rows: &[Row]) {
 const CLAUSES: [i32; 6] = [1, 2, 0, -3, 1, 0];
 
 const CLAUSE_ROWS: [Row; 6] = [
-    ([0, 0, 0], 1),
-    ([0, 1, 0], 2),
-    ([2, 1, 0], 2),
-    ([2, 1, 1], 2),
-    ([2, 2, 1], 1),
-    ([1, 0, 0], 0),
+    ([0, 0, 0], Some(1)),
+    ([0, 1, 0], Some(2)),
+    ([2, 1, 0], Some(2)),
+    ([2, 1, 1], Some(2)),
+    ([2, 2, 1], Some(1)),
+    ([1, 0, 0], None),
 ];
 
 // as odd rules: 1 and 2 and 3, and -3
 const ODDS: [i32; 6] = [1, 2, 3, 0, -3, 0];
 
 const ODD_ROWS: [Row; 5] = [
-    ([0, 0, 2], 1),
-    ([1, 1, 2], 1),
-    ([1, 1, 0], 1),
-    ([1, 1, 1], 2),
-    ([1, 2, 2], 0),
+    ([0, 0, 2], Some(1)),
+    ([1, 1, 2], Some(1)),
+    ([1, 1, 0], Some(1)),
+    ([1, 1, 1], Some(2)),
+    ([1, 2, 2], None),
 ];
 
 const BOTH_ROWS: [Row; 6] = [
-    ([0, 0, 2], 1),
-    ([0, 1, 0], 2),
-    ([1, 0, 0], 3),
-    ([1, 1, 2], 3),
-    ([1, 1, 1], 4),
-    ([1, 2, 2], 0),
+    ([0, 0, 2], Some(1)),
+    ([0, 1, 0], Some(2)),
+    ([1, 0, 0], Some(3)),
+    ([1, 1, 2], Some(3)),
+    ([1, 1, 1], Some(4)),
+    ([1, 2, 2], None),
 ];
 
 #[test]
@@ -80,6 +80,6 @@ fn no_rules(rt: HostRuntime) -> Result<(), Fail> {
     }
     let tables = Tables::open(&[], &[], 3);
     let store = Joined::join(&tables.clauses, &tables.odds);
-    hold(&rt, &store, &[([0, 0, 0], 0), ([1, 2, 1], 0)]);
+    hold(&rt, &store, &[([0, 0, 0], None), ([1, 2, 1], None)]);
     Ok(())
 }

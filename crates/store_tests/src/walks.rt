@@ -4,7 +4,7 @@ use stores::{ByLook, Find, Joined, Rules, is_partial};
 use tables::Tables;
 
 // What each walk answers under a partial, first of it and then beside another one.
-fn walk<S: Rules>(store: &S, before: &[u8], side: &[u8]) -> Option<(Find, bool, u32)> {
+fn walk<S: Rules>(store: &S, before: &[u8], side: &[u8]) -> Option<(Option<Find>, bool, u32)> {
     let n = store.variables();
     if !is_partial(before, n) || !is_partial(side, n) {
         return None;
@@ -17,7 +17,11 @@ fn walk<S: Rules>(store: &S, before: &[u8], side: &[u8]) -> Option<(Find, bool, 
 }
 
 // The same by looks alone.
-fn walk_by_look<S: Rules>(store: &S, before: &[u8], side: &[u8]) -> Option<(Find, bool, u32)> {
+fn walk_by_look<S: Rules>(
+    store: &S,
+    before: &[u8],
+    side: &[u8],
+) -> Option<(Option<Find>, bool, u32)> {
     let slow = ByLook { store };
     walk(&slow, before, side)
 }
@@ -31,12 +35,12 @@ fn walks(rt: HostRuntime) -> Result<(), Fail> {
     }
     let tables = Tables::open(&clauses, &odds, 3);
     let store = Joined::join(&tables.clauses, &tables.odds);
-    let rows: [([u8; 3], Find, bool, u32); 5] = [
-        ([0, 0, 0], Find::Nothing, false, 0),
-        ([1, 0, 0], Find::Nothing, false, 1000),
-        ([2, 0, 0], Find::Force(2), false, 1000),
-        ([2, 2, 0], Find::Clash, false, 0),
-        ([1, 2, 2], Find::Nothing, true, 0),
+    let rows: [([u8; 3], Option<Find>, bool, u32); 5] = [
+        ([0, 0, 0], None, false, 0),
+        ([1, 0, 0], None, false, 1000),
+        ([2, 0, 0], Some(Find::Force(2)), false, 1000),
+        ([2, 2, 0], Some(Find::Clash), false, 0),
+        ([1, 2, 2], None, true, 0),
     ];
     for (side, find, settled, gain) in rows {
         assert_eq!(rt;

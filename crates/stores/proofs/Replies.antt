@@ -87,3 +87,8 @@ said_by s r p k v false a e = absurd (not_refused v e)
 pub said : (s : Store) (r : ℕ) (p : List ℕ) → Keeps s → (v : Result Look Refusal) → reply_of v ≡ look_reply s r p → Said s r p v
 said s r p k (Ok v) e = said_by s r p k v (answers s r p) refl e
 said s r p k (Err x) e = tt
+
+-- the reply to a look at a rule that is there, under a partial that fits
+pub looked : (s : Store) (r : ℕ) (p : List ℕ) (v : Result Look Refusal) → 1 ≤ r → r ≤ s.m → Partial s.n p → reply_of v ≡ look_reply s r p → v ≡ Ok (s.look r p)
+looked s r p (Ok v) low high q h = ap Ok (seen_is s r p low high q v h)
+looked s r p (Err e) low high q h = absurd (refused_never s r p low high q e h)

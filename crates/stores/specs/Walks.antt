@@ -1,25 +1,26 @@
 -- Walks over all rules of a store.
-use Rattle.std.specs.Prelude.{ℕ, zero, suc, ◌+◌, Bool, true, false, cond, ◌&&◌, List, ◌==◌, nat_lt}
+use Rattle.std.specs.Prelude.{ℕ, zero, suc, ◌+◌, Bool, true, false, cond, ◌&&◌, List, ◌==◌, nat_lt, Some, None, Option}
+use Rattle.std.specs.Option.{option_or}
 use Rattle.stores.specs.declared.look.Look.{Look}
 use Rattle.stores.specs.declared.look.Look.TheVariants.{Settled, Broken, Forces, Open}
 use Rattle.stores.specs.declared.look.Find.{Find}
-use Rattle.stores.specs.declared.look.Find.TheVariants.{Nothing, Clash, Force}
+use Rattle.stores.specs.declared.look.Find.TheVariants.{Clash, Force}
 use Rattle.stores.specs.Stores.{Store}
 
--- what a rule's look gives, where `later` tells of the rules from the next one on
-abbrev pub found_by : (ℕ → Find) → ℕ → Look → Find
-found_by later r Settled = later (suc r)
-found_by later r Broken = Clash
-found_by later r (Forces l) = Force l
-found_by later r (Open k) = later (suc r)
+-- what a look is to a walk that stops at a rule that is broken or forces; None where the walk goes on
+abbrev pub find_of : Look → Option Find
+find_of Settled = None
+find_of Broken = Some Clash
+find_of (Forces l) = Some (Force l)
+find_of (Open k) = None
 
--- what the lowest of the k rules from r on says that is broken or forces
-unfoldable pub found : Store → List ℕ → ℕ → ℕ → Find
-found s p zero r = Nothing
-found s p (suc k) r = found_by (found s p k) r (s.look r p)
+-- what the lowest of the k rules from r on says that is broken or forces; None where there is none
+unfoldable pub found : Store → List ℕ → ℕ → ℕ → Option Find
+found s p zero r = None
+found s p (suc k) r = option_or (find_of (s.look r p)) (found s p k (suc r))
 
 -- and the lowest of all rules
-abbrev pub lowest_of : Store → List ℕ → Find
+abbrev pub lowest_of : Store → List ℕ → Option Find
 lowest_of s p = found s p s.m 1
 
 abbrev pub is_settled : Look → Bool
@@ -36,17 +37,12 @@ settled_from s p (suc k) r = is_settled (s.look r p) && settled_from s p k (suc 
 abbrev pub all_settled : Store → List ℕ → Bool
 all_settled s p = settled_from s p s.m 1
 
--- what a rule gives by whether it is settled, where `later` tells of the rules from the next one on
-abbrev pub unsettled_by : (ℕ → ℕ) → ℕ → Bool → ℕ
-unsettled_by later r true = later (suc r)
-unsettled_by later r false = r
+-- the lowest of the k rules from r on that is not settled; None where there is none
+unfoldable pub unsettled_from : Store → List ℕ → ℕ → ℕ → Option ℕ
+unsettled_from s p zero r = None
+unsettled_from s p (suc k) r = cond (is_settled (s.look r p)) (unsettled_from s p k (suc r)) (Some r)
 
--- the lowest of the k rules from r on that is not settled, or 0
-unfoldable pub unsettled_from : Store → List ℕ → ℕ → ℕ → ℕ
-unsettled_from s p zero r = 0
-unsettled_from s p (suc k) r = unsettled_by (unsettled_from s p k) r (is_settled (s.look r p))
-
-abbrev pub first_unsettled : Store → List ℕ → ℕ
+abbrev pub first_unsettled : Store → List ℕ → Option ℕ
 first_unsettled s p = unsettled_from s p s.m 1
 
 -- the weight of a rule that is open with k

@@ -1,6 +1,7 @@
 // The answers of a look and of a walk over all rules, and the refusal of a look.
 ghost use Rattle.std.specs.Prelude.{◌≡◌};
 ghost use Rattle.stores.specs.Numbers.{number_of};
+ghost use Rattle.stores.specs.Walks.{find_of, is_settled};
 
 // What a look says of a rule under a partial assignment.
 #[derive(Clone, Copy, PartialEq, Eq, Debug)]
@@ -15,20 +16,37 @@ pub enum Look {
     Open(usize),
 }
 
-// What the lowest rule that is broken or forces says.
+// What a rule that is broken or forces is to a walk.
 #[derive(Clone, Copy, PartialEq, Eq, Debug)]
 pub enum Find {
-    // there is no such rule
-    Nothing,
     Clash,
     Force(i32),
+}
+
+impl Look {
+    // What a walk finds at a rule that is broken or forces.
+    pub fn found(self) -> Option<Find>
+        ensures { result ≡ find_of self }
+    {
+        match self {
+            Look::Broken => Some(Find::Clash),
+            Look::Forces(literal) => Some(Find::Force(literal)),
+            Look::Settled | Look::Open(_) => None,
+        }
+    }
+
+    pub fn is_settled(self) -> bool
+        ensures { result ≡ is_settled self }
+    {
+        matches!(self, Look::Settled)
+    }
 }
 
 // Why a look or a hand-out is refused.
 #[derive(Clone, Copy, PartialEq, Eq, Debug)]
 pub enum Refusal {
     // no such rule, or a partial that is not one byte from 0 to 2 for each variable
-    Unfit,
+    Unfit = 18,
 }
 
 impl Refusal {
@@ -36,8 +54,6 @@ impl Refusal {
     pub fn number(self) -> u32
         ensures { result ≡ number_of self }
     {
-        match self {
-            Refusal::Unfit => 18,
-        }
+        self as u32
     }
 }

@@ -1,5 +1,6 @@
 // What a store of rules means, and what walks over all its rules answer.
-ghost use Rattle.std.specs.Prelude.{◌≡◌, ℕ, ◌≤◌, true, is_ok, Ok};
+ghost use Rattle.std.specs.Prelude.{◌≡◌, ℕ, ◌≤◌, false};
+ghost use Rattle.std.specs.Range.{range_inclusive_start, range_inclusive_end, range_inclusive_exhausted};
 ghost use Rattle.rules.specs.Literals.{Partial};
 ghost use Rattle.stores.specs.Numbers.{reply_of};
 ghost use Rattle.stores.specs.Stores.{Store, Lawful, look_reply, Said};
@@ -7,16 +8,15 @@ ghost use Rattle.stores.specs.Walks.{lowest_of, gained, all_settled, first_unset
 
 use crate::look::{Find, Look, Refusal};
 use crate::weight::gain_of;
+use std::ops::RangeInclusive;
 
-// The answer of a look that was not refused.
-fn answered(reply: Result<Look, Refusal>) -> Look
-    requires { is_ok reply ≡ true }
-    ensures { reply ≡ Ok result }
+// The numbers of so many rules.
+fn numbers(rules: usize) -> RangeInclusive<usize>
+    ensures first { range_inclusive_start result ≡ 1 }
+    ensures last { range_inclusive_end result ≡ rules }
+    ensures fresh { range_inclusive_exhausted result ≡ false }
 {
-    match reply {
-        Ok(look) => look,
-        Err(_) => unreachable(),
-    }
+    1..=rules
 }
 
 // Anything that can be looked at as rules. A store gives its numbers and its looks; the rest follows from them,
@@ -38,28 +38,20 @@ pub trait Rules {
         ensures says { Said (means self.now) rule partial.now result };
 
     // A look at a rule that is there, under a partial that was checked.
+    #[tactic(auto, using(crate::proofs::Replies::looked, crate::proofs::Replies::not_refused_there))]
     fn seen(&self, rule: usize, partial: &[u8]) -> Look
         requires { (1 ≤ rule) × ((rule ≤ (means self.now).m) × (Partial (means self.now).n partial.now)) }
         ensures { result ≡ (means self.now).look rule partial.now }
     {
-        answered(self.look(rule, partial))
+        self.look(rule, partial).unwrap()
     }
 
     // What the lowest rule that is broken or forces says.
-    fn lowest(&self, partial: &[u8]) -> Find
+    fn lowest(&self, partial: &[u8]) -> Option<Find>
         requires { Partial (means self.now).n partial.now }
         ensures { result ≡ lowest_of (means self.now) partial.now }
     {
-        let m = self.rules();
-        for i in 0..m {
-            match self.seen(i + 1, partial) {
-                Look::Settled => {}
-                Look::Open(_) => {}
-                Look::Broken => return Find::Clash,
-                Look::Forces(l) => return Find::Force(l),
-            }
-        }
-        Find::Nothing
+        numbers(self.rules()).find_map(|rule| self.seen(rule, partial).found())
     }
 
     // The gain of a side: the weights of the rules that are open there with less than before.
@@ -67,45 +59,27 @@ pub trait Rules {
         requires { (Partial (means self.now).n before.now) × (Partial (means self.now).n side.now) }
         ensures { result ≡ gained (means self.now) before.now side.now }
     {
-        let m = self.rules();
-        let mut total: u32 = 0;
-        for j in 0..m {
-            total += gain_of(self.seen(j + 1, before), self.seen(j + 1, side));
+        let mut total = 0;
+        for rule in 1..=self.rules() {
+            total += gain_of(self.seen(rule, before), self.seen(rule, side));
         }
         total
     }
 
     // Whether every rule is settled.
+    #[tactic(auto, using(crate::proofs::Walks::all_settled_is))]
     fn all_settled(&self, partial: &[u8]) -> bool
         requires { Partial (means self.now).n partial.now }
         ensures { result ≡ all_settled (means self.now) partial.now }
     {
-        let m = self.rules();
-        for k in 0..m {
-            match self.seen(k + 1, partial) {
-                Look::Settled => {}
-                Look::Open(_) => return false,
-                Look::Broken => return false,
-                Look::Forces(_) => return false,
-            }
-        }
-        true
+        self.unsettled(partial).is_none()
     }
 
-    // The lowest rule that is not settled, or 0.
-    fn unsettled(&self, partial: &[u8]) -> usize
+    // The lowest rule that is not settled.
+    fn unsettled(&self, partial: &[u8]) -> Option<usize>
         requires { Partial (means self.now).n partial.now }
         ensures { result ≡ first_unsettled (means self.now) partial.now }
     {
-        let m = self.rules();
-        for passed in 0..m {
-            match self.seen(passed + 1, partial) {
-                Look::Settled => {}
-                Look::Open(_) => return passed + 1,
-                Look::Broken => return passed + 1,
-                Look::Forces(_) => return passed + 1,
-            }
-        }
-        0
+        numbers(self.rules()).find(|rule| !self.seen(*rule, partial).is_settled())
     }
 }

@@ -4,5 +4,4 @@ pub mod Tallies
 pub mod Checking
 pub mod Places
 pub mod Lists
-pub mod Counting
 pub mod Opened

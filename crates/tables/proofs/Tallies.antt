@@ -1,5 +1,5 @@
 -- The tally of a rule's literals.
-use Rattle.std.proofs.Common.{◌≡◌, ℕ, zero, suc, ◌+◌, ◌≤◌, Bool, true, false, cond, eqb, List, [], ◌∷◌, length, get_or, drop, ℤ, pos, nat_abs, sym, refl, ap, ◌∙◌, subst, arith}
+use Rattle.std.proofs.Common.{◌≡◌, ℕ, zero, suc, ◌+◌, ◌≤◌, Bool, true, false, cond, ◌||◌, eqb, List, [], ◌∷◌, length, get_or, ℤ, pos, nat_abs, sym, refl, ap, ◌∙◌, subst, arith}
 use Rattle.rules.specs.Literals.{Each, Literal, place, side, is_true}
 use Rattle.rules.specs.Rules.{true_count}
 use Rattle.rules.specs.declared.kind.Kind.{Kind}
@@ -8,23 +8,24 @@ use Rattle.meaning.specs.Tables.{is_end}
 use Rattle.meaning.specs.Listed.{if_free, free_of, look_by, look_at}
 use Rattle.meaning.proofs.Keeps.{Loose, free_loose}
 use Rattle.meaning.proofs.Tables.{literal_few}
-use Rattle.tables.specs.Scan.{front, has_end, next_of, free_by, last_by, last_from, last_of, answer_by}
-use Rattle.tables.proofs.Rows.{Passing, past_starts, past_lit, past_end, front_lit, front_end}
+use Rattle.tables.specs.Scan.{front, has_end, after, free_by, last_by, last_from, last_of, answer_by}
 
--- the literals from `at` up to i are counted
-pub record Scanning (t : List ℤ) (p : List ℕ) (at i trues free : ℕ) (last : ℤ) : Type 0 where
-  pub trues_are : trues + true_count p (front (drop i t)) ≡ true_count p (front (drop at t))
-  pub free_are : free + length (free_of p (front (drop i t))) ≡ length (free_of p (front (drop at t)))
-  pub last_is : last_from last (free_of p (front (drop i t))) ≡ last_of (free_of p (front (drop at t)))
-  pub range : Each (Literal (length p)) (front (drop i t))
-  pub past : Passing t at i
-  pub few : trues ≤ i
-  pub few_free : free ≤ i
+-- the literals of the first rule of t are counted up to r
+pub record Scanning (p : List ℕ) (t r : List ℤ) (trues free : ℕ) (last : ℤ) : Type 0 where
+  pub trues_are : trues + true_count p (front r) ≡ true_count p (front t)
+  pub free_are : free + length (free_of p (front r)) ≡ length (free_of p (front t))
+  pub last_is : last_from last (free_of p (front r)) ≡ last_of (free_of p (front t))
+  pub range : Each (Literal (length p)) (front r)
+  pub ended : has_end r ≡ has_end t
+  pub rest : after r ≡ after t
+  pub few : trues + length r ≤ length t
+  pub few_free : free + length r ≤ length t
 
-pub scan_starts : (t : List ℤ) (p : List ℕ) (at : ℕ) → has_end (drop at t) ≡ true → Each (Literal (length p)) (front (drop at t)) → Scanning t p at at 0 0 (pos 0)
-scan_starts t p at e r = record { trues_are = omega arith; free_are = omega arith; last_is = refl; range = r; past = past_starts t at e; few = omega arith; few_free = omega arith }
+pub scan_starts : (p : List ℕ) (t : List ℤ) → Each (Literal (length p)) (front t) → Scanning p t t 0 0 (pos 0)
+scan_starts p t r = record { trues_are = omega arith; free_are = omega arith; last_is = refl; range = r; ended = refl; rest = refl; few = omega arith; few_free = omega arith }
 
-module _ {t : List ℤ} {p : List ℕ} {at i trues free : ℕ} {last : ℤ} (w : Scanning t p at i trues free last) (z : ℤ) (r : z ≡ get_or t i (pos 0)) where
+-- one number more
+module _ {p : List ℕ} {t u : List ℤ} {trues free : ℕ} {last : ℤ} (w : Scanning p t u trues free last) (z : ℤ) (r : List ℤ) (is : u ≡ z ∷ r) where
   more_true : (v : Bool) (x y k : ℕ) → x + cond v (suc y) y ≡ k → cond v (suc x) x + y ≡ k
   more_true true x y k h = omega arith
   more_true false x y k h = h
@@ -37,52 +38,56 @@ module _ {t : List ℤ} {p : List ℕ} {at i trues free : ℕ} {last : ℤ} (w :
   more_last zero ls = refl
   more_last (suc b) ls = refl
 
-  few_more : (v : Bool) (x : ℕ) → x ≤ i → cond v (suc x) x ≤ i + 1
-  few_more true x h = omega arith
-  few_more false x h = omega arith
+  few_more : (v : Bool) (x : ℕ) → x + length u ≤ length t → cond v (suc x) x + length r ≤ length t
+  few_more true x h = let e = ap length is in omega arith
+  few_more false x h = let e = ap length is in omega arith
 
-  few_free_more : (b x : ℕ) → x ≤ i → free_by b x ≤ i + 1
-  few_free_more zero x h = omega arith
-  few_free_more (suc b) x h = omega arith
+  few_free_more : (b x : ℕ) → x + length u ≤ length t → free_by b x + length r ≤ length t
+  few_free_more zero x h = let e = ap length is in omega arith
+  few_free_more (suc b) x h = let e = ap length is in omega arith
 
   module _ (lit : is_end z ≡ false) where
-    here : front (drop i t) ≡ z ∷ front (drop (i + 1) t)
-    here = front_lit t i w.past.high z r lit
+    here : front u ≡ z ∷ front r
+    here = ap front is ∙ ap (λ b. cond b [] (z ∷ front r)) lit
 
     pub scan_literal : Literal (length p) z
     scan_literal = (subst (Each (Literal (length p))) here w.range).0
 
-    pub scan_more : (b trues' free' : ℕ) (last' : ℤ) → b ≡ get_or p (place z) 0 → trues' ≡ cond (eqb b (side z)) (suc trues) trues → free' ≡ free_by b free → last' ≡ last_by b z last → Scanning t p at (i + 1) trues' free' last'
-    scan_more b trues' free' last' e x y u =
-        let fs = free_of p (front (drop (i + 1) t)) in
-        let tr = x ∙ ap (λ v. cond (eqb v (side z)) (suc trues) trues) e in
-        let fr = y ∙ ap (λ v. free_by v free) e in
-        let la = u ∙ ap (λ v. last_by v z last) e in
+    pub scan_more : (b trues' free' : ℕ) (last' : ℤ) → b ≡ get_or p (place z) 0 → trues' ≡ cond (eqb b (side z)) (suc trues) trues → free' ≡ free_by b free → last' ≡ last_by b z last → Scanning p t r trues' free' last'
+    scan_more b trues' free' last' e x y v =
+        let fs = free_of p (front r) in
+        let tr = x ∙ ap (λ k. cond (eqb k (side z)) (suc trues) trues) e in
+        let fr = y ∙ ap (λ k. free_by k free) e in
+        let la = v ∙ ap (λ k. last_by k z last) e in
         record {
-          trues_are = ap (λ v. v + true_count p (front (drop (i + 1) t))) tr ∙ more_true (is_true p z) trues (true_count p (front (drop (i + 1) t))) _ (sym (ap (λ ls. trues + true_count p ls) here) ∙ w.trues_are);
-          free_are = ap (λ v. v + length fs) fr ∙ more_free (get_or p (place z) 0) fs free _ (sym (ap (λ ls. free + length (free_of p ls)) here) ∙ w.free_are);
-          last_is = ap (λ v. last_from v fs) la ∙ more_last (get_or p (place z) 0) fs ∙ sym (ap (λ ls. last_from last (free_of p ls)) here) ∙ w.last_is;
+          trues_are = ap (λ k. k + true_count p (front r)) tr ∙ more_true (is_true p z) trues (true_count p (front r)) _ (sym (ap (λ ls. trues + true_count p ls) here) ∙ w.trues_are);
+          free_are = ap (λ k. k + length fs) fr ∙ more_free (get_or p (place z) 0) fs free _ (sym (ap (λ ls. free + length (free_of p ls)) here) ∙ w.free_are);
+          last_is = ap (λ k. last_from k fs) la ∙ more_last (get_or p (place z) 0) fs ∙ sym (ap (λ ls. last_from last (free_of p ls)) here) ∙ w.last_is;
           range = (subst (Each (Literal (length p))) here w.range).1;
-          past = past_lit w.past z r lit;
-          few = subst (λ v. v ≤ i + 1) (sym tr) (few_more (is_true p z) trues w.few);
-          few_free = subst (λ v. v ≤ i + 1) (sym fr) (few_free_more (get_or p (place z) 0) free w.few_free);
+          ended = sym (ap has_end is ∙ ap (λ b. b || has_end r) lit) ∙ w.ended;
+          rest = sym (ap after is ∙ ap (λ b. cond b r (after r)) lit) ∙ w.rest;
+          few = subst (λ k. k + length r ≤ length t) (sym tr) (few_more (is_true p z) trues w.few);
+          few_free = subst (λ k. k + length r ≤ length t) (sym fr) (few_free_more (get_or p (place z) 0) free w.few_free);
         }
 
   module _ (end : is_end z ≡ true) where
-    none_left : front (drop i t) ≡ []
-    none_left = front_end t i w.past.high z r end
+    none_left : front u ≡ []
+    none_left = ap front is ∙ ap (λ b. cond b [] (z ∷ front r)) end
 
-    pub scan_trues : trues ≡ true_count p (front (drop at t))
+    pub scan_trues : trues ≡ true_count p (front t)
     scan_trues = let e = ap (true_count p) none_left in let s = w.trues_are in omega arith
 
-    pub scan_free : free ≡ length (free_of p (front (drop at t)))
+    pub scan_free : free ≡ length (free_of p (front t))
     scan_free = let e = ap (λ ls. length (free_of p ls)) none_left in let s = w.free_are in omega arith
 
-    pub scan_last : last ≡ last_of (free_of p (front (drop at t)))
+    pub scan_last : last ≡ last_of (free_of p (front t))
     scan_last = sym (ap (λ ls. last_from last (free_of p ls)) none_left) ∙ w.last_is
 
-    pub scan_next : i + 1 ≡ next_of t at
-    scan_next = past_end w.past z r end
+    pub scan_has : has_end t ≡ true
+    scan_has = sym w.ended ∙ ap has_end is ∙ ap (λ b. b || has_end r) end
+
+    pub scan_rest : r ≡ after t
+    scan_rest = sym (ap after is ∙ ap (λ b. cond b r (after r)) end) ∙ w.rest
 
 -- ---- the answer
 answer_is : (kind : Kind) (t : ℕ) (fs : List ℤ) → answer_by kind t (length fs) (last_of fs) ≡ look_by kind t fs

@@ -1,10 +1,8 @@
 -- One rule of a table, from its first literal on.
-use Rattle.std.specs.Prelude.{ℕ, zero, suc, ◌+◌, Bool, false, cond, ◌||◌, List, [], ◌∷◌, length, drop, ℤ, pos, neg_ℤ, Some, None, Option}
+use Rattle.std.specs.Prelude.{ℕ, zero, suc, Bool, false, cond, ◌||◌, List, [], ◌∷◌, ℤ, pos, neg_ℤ}
 use Rattle.rules.specs.Rules.{is_odd}
 use Rattle.stores.specs.declared.look.Look.{Look}
 use Rattle.stores.specs.declared.look.Look.TheVariants.{Settled, Broken, Forces, Open}
-use Rattle.stores.specs.declared.look.Find.{Find}
-use Rattle.stores.specs.declared.look.Find.TheVariants.{Clash, Force}
 use Rattle.rules.specs.declared.kind.Kind.{Kind}
 use Rattle.rules.specs.declared.kind.Kind.TheVariants.{Clause, Odd}
 use Rattle.meaning.specs.Tables.{is_end}
@@ -18,9 +16,10 @@ abbrev pub has_end : List ℤ → Bool
 has_end [] = false
 has_end (z ∷ zs) = is_end z || has_end zs
 
--- the index after the rule that begins at an index, and after its 0
-abbrev pub next_of : List ℤ → ℕ → ℕ
-next_of t at = at + suc (length (front (drop at t)))
+-- what stands after the first 0
+abbrev pub after : List ℤ → List ℤ
+after [] = []
+after (z ∷ zs) = cond (is_end z) zs (after zs)
 
 -- a count of free literals and the last of them, with one more literal whose variable has the byte b
 abbrev pub free_by : ℕ → ℕ → ℕ
@@ -48,10 +47,3 @@ answer_by Clause zero (suc (suc f)) l = Open (suc (suc f))
 answer_by Odd t zero l = cond (is_odd t) Settled Broken
 answer_by Odd t (suc zero) l = Forces (cond (is_odd t) (neg_ℤ l) l)
 answer_by Odd t (suc (suc f)) l = Open (suc (suc f))
-
--- what a look is to a walk that stops at a rule that is broken or forces; none where the walk goes on
-abbrev pub find_of : Look → Option Find
-find_of Settled = None
-find_of Broken = Some Clash
-find_of (Forces l) = Some (Force l)
-find_of (Open k) = None

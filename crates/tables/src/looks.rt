@@ -1,16 +1,15 @@
 // A table of rules as a store, and the hand-out of a rule.
-ghost use Rattle.std.specs.Prelude.{◌≡◌, ℕ, ◌+◌, ◌*◌, ◌≤◌, true, false, length, drop, MatchResult};
-ghost use Rattle.rules.specs.Literals.{Literal, Each};
+ghost use Rattle.std.specs.Prelude.{◌≡◌, ◌+◌, ◌-◌, ◌*◌, ◌≤◌, true, false, length, drop, map, MatchResult, IfSome, suc, ◌<◌};
+ghost use Rattle.std.specs.Option.{option_map};
 ghost use Rattle.stores.specs.Numbers.{number_of};
-ghost use Rattle.stores.specs.Walks.{is_settled, gain_of};
+ghost use Rattle.stores.specs.Walks.{gain_of, first_unsettled};
 ghost use Rattle.meaning.specs.Listed.{look_at, nth_rule};
-ghost use Rattle.meaning.specs.Tables.{parts, is_rule, start_of};
-ghost use Rattle.tables.specs.Scan.{front, has_end, next_of, find_of};
+ghost use Rattle.meaning.specs.Tables.{parts, opens, is_rule, start_of};
 ghost use Rattle.tables.specs.Laws.{table_store, table_laws};
+ghost use Rattle.tables.specs.Looks.{looks_left};
 
-use crate::scan::{literals_at, next_rule, rule_at};
-use crate::table::Table;
-use rules::Kind;
+use crate::scan::first_rule;
+use crate::table::{Looks, Table};
 use stores::{Find, Look, Refusal, Rules, gain_of, is_partial};
 
 impl<'a> Table<'a> {
@@ -23,68 +22,66 @@ impl<'a> Table<'a> {
 
     // The index at which a rule begins.
     fn start(&self, rule: usize) -> usize
-        requires { (1 ≤ rule) × (rule ≤ self.now.rules) }
-        ensures { result ≡ start_of (parts self.now.table.now) rule }
+        requires { (1 ≤ rule) × (rule ≤ self.now.rules + 1) }
+        ensures value { result ≡ start_of (parts self.now.table.now) rule }
+        ensures within { result ≤ length self.now.table.now }
     {
         let mut at = 0;
         for _k in 1..rule {
-            at = next_rule(self.table, at);
+            at += first_rule(&self.table[at..]).len() + 1;
         }
         at
     }
 
+    // The table from a rule on.
+    fn from(&self, rule: usize) -> &'a [i32]
+        requires { (1 ≤ rule) × (rule ≤ self.now.rules + 1) }
+        ensures sound { opens self.now.vars result.now ≡ true }
+        ensures parts { parts result.now ≡ drop (rule - 1) (parts self.now.table.now) }
+        ensures place { result.ref_ptr ≡ (self.now.table.ref_ptr.0, self.now.table.ref_ptr.1 + start_of (parts self.now.table.now) rule * 4) }
+    {
+        &self.table[self.start(rule)..]
+    }
+
     // The literals of a rule, numbered from 1: that very part of the lent table.
+    #[tactic(auto, using(crate::proofs::Places::rule_from, crate::proofs::Places::from_has, crate::proofs::Places::from_front))]
     pub fn rule(&self, rule: usize) -> Result<&'a [i32], Refusal>
         ensures { MatchResult result (λ s. (is_rule self.now.rules rule ≡ true) × (s.now ≡ nth_rule (parts self.now.table.now) rule) × (s.ref_ptr ≡ (self.now.table.ref_ptr.0, self.now.table.ref_ptr.1 + start_of (parts self.now.table.now) rule * 4))) (λ e. (is_rule self.now.rules rule ≡ false) × (number_of e ≡ 18)) }
     {
         if !self.has_rule(rule) {
             return Err(Refusal::Unfit);
         }
-        Ok(literals_at(self.table, self.start(rule)))
+        Ok(first_rule(self.from(rule)))
+    }
+
+    // The looks at the rules from one on.
+    #[tactic(auto, using(crate::proofs::Places::looks_parts))]
+    fn looks<'b>(&self, rule: usize, partial: &'b [u8]) -> Looks<'a, 'b>
+        requires { (1 ≤ rule) × ((rule ≤ self.now.rules + 1) × (length partial.now ≡ self.now.vars)) }
+        ensures { looks_left result ≡ drop (rule - 1) (map (look_at self.now.kind partial.now) (parts self.now.table.now)) }
+    {
+        Looks {
+            kind: self.kind,
+            table: self.from(rule),
+            partial,
+        }
+    }
+
+    // How many rules stand before the first that is not settled.
+    fn settled_before(&self, partial: &[u8]) -> Option<usize>
+        requires { length partial.now ≡ self.now.vars }
+        ensures value { first_unsettled (table_store self.now) partial.now ≡ option_map suc result }
+        ensures bound { IfSome result (λ k. k < 16384) }
+    {
+        self.looks(1, partial).position(|look| !look.is_settled())
     }
 }
 
-// The look alone at the rule that begins at an index.
-fn look_from(kind: Kind, table: &[i32], at: usize, partial: &[u8]) -> Look
-    requires { (has_end (drop at table.now) ≡ true) × ((Each (Literal (length partial.now)) (front (drop at table.now))) × (length partial.now ≤ 2048)) }
-    ensures { result ≡ look_at kind partial.now (front (drop at table.now)) }
+// What a rule gives to the gain of a side, by its looks before and there.
+fn gain_at(looks: (Look, Look)) -> u32
+    ensures { result ≡ gain_of looks.0 looks.1 }
 {
-    let (look, _next) = rule_at(kind, table, at, partial);
-    look
-}
-
-// What a walk finds at a rule that is broken or forces.
-fn found_in(look: Look) -> Option<Find>
-    ensures { result ≡ find_of look }
-{
-    match look {
-        Look::Settled => None,
-        Look::Open(_) => None,
-        Look::Broken => Some(Find::Clash),
-        Look::Forces(l) => Some(Find::Force(l)),
-    }
-}
-
-fn is_settled(look: Look) -> bool
-    ensures { result ≡ is_settled look }
-{
-    match look {
-        Look::Settled => true,
-        _ => false,
-    }
-}
-
-// What the rule that begins at an index gives to the gain of a side, and the index after the rule.
-fn gain_at(kind: Kind, table: &[i32], at: usize, before: &[u8], side: &[u8]) -> (u32, usize)
-    requires there { has_end (drop at table.now) ≡ true }
-    requires before { (Each (Literal (length before.now)) (front (drop at table.now))) × (length before.now ≤ 2048) }
-    requires side { (Each (Literal (length side.now)) (front (drop at table.now))) × (length side.now ≤ 2048) }
-    ensures gain { result.0 ≡ gain_of (look_at kind before.now (front (drop at table.now))) (look_at kind side.now (front (drop at table.now))) }
-    ensures next { result.1 ≡ next_of table.now at }
-{
-    let (was, _same) = rule_at(kind, table, at, before);
-    let (is, next) = rule_at(kind, table, at, side);
-    (gain_of(was, is), next)
+    gain_of(looks.0, looks.1)
 }
 
 impl<'a> Rules for Table<'a> {
@@ -112,59 +109,21 @@ impl<'a> Rules for Table<'a> {
     }
 
     fn seen(&self, rule: usize, partial: &[u8]) -> Look {
-        look_from(self.kind, self.table, self.start(rule), partial)
+        self.looks(rule, partial).next().unwrap()
     }
 
-    fn lowest(&self, partial: &[u8]) -> Find {
-        let table = self.table;
-        let mut at = 0;
-        while at < table.len() {
-            let (look, next) = rule_at(self.kind, table, at, partial);
-            if let Some(find) = found_in(look) {
-                return find;
-            }
-            at = next;
-        }
-        Find::Nothing
+    fn lowest(&self, partial: &[u8]) -> Option<Find> {
+        self.looks(1, partial).find_map(Look::found)
     }
 
     fn gain(&self, before: &[u8], side: &[u8]) -> u32 {
-        let table = self.table;
-        let mut total: u32 = 0;
-        let mut at = 0;
-        while at < table.len() {
-            let (gained, next) = gain_at(self.kind, table, at, before, side);
-            total += gained;
-            at = next;
-        }
-        total
+        self.looks(1, before)
+            .zip(self.looks(1, side))
+            .map(gain_at)
+            .sum()
     }
 
-    fn all_settled(&self, partial: &[u8]) -> bool {
-        let table = self.table;
-        let mut at = 0;
-        while at < table.len() {
-            let (look, next) = rule_at(self.kind, table, at, partial);
-            if !is_settled(look) {
-                return false;
-            }
-            at = next;
-        }
-        true
-    }
-
-    fn unsettled(&self, partial: &[u8]) -> usize {
-        let table = self.table;
-        let mut rule: usize = 1;
-        let mut at = 0;
-        while at < table.len() {
-            let (look, next) = rule_at(self.kind, table, at, partial);
-            if !is_settled(look) {
-                return rule;
-            }
-            rule += 1;
-            at = next;
-        }
-        0
+    fn unsettled(&self, partial: &[u8]) -> Option<usize> {
+        Some(self.settled_before(partial)? + 1)
     }
 }

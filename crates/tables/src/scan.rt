@@ -1,37 +1,19 @@
-// A look at the rule that stands at an index of a table.
-ghost use Rattle.std.specs.Prelude.{◌≡◌, ℕ, suc, ◌+◌, ◌-◌, ◌*◌, ◌^◌, ◌<◌, ◌≤◌, true, length, drop, neg_ℤ, if◌then◌else◌, nat_eq, slice_index, slice_range, unsigned_abs};
-ghost use Rattle.rules.specs.Literals.{Literal, Each, place, side};
-ghost use Rattle.rules.specs.Rules.{true_count, is_odd};
+// The looks at the rules of a table, each in one pass over its literals.
+ghost use Rattle.std.specs.Prelude.{◌≡◌, suc, ◌+◌, ◌^◌, ◌<◌, ◌≤◌, true, [], length, if◌then◌else◌, nat_eq, unsigned_abs, MatchOption};
+ghost use Rattle.std.specs.Iterator.{YieldsFirst, item_count};
+ghost use Rattle.rules.specs.Literals.{side};
+ghost use Rattle.rules.specs.Rules.{is_odd};
 ghost use Rattle.rules.specs.declared.kind.Kind.TheVariants.{Clause, Odd};
-ghost use Rattle.meaning.specs.Listed.{free_of, look_at};
-ghost use Rattle.tables.specs.Scan.{front, has_end, next_of, free_by, last_by, last_of, answer_by};
+ghost use Rattle.meaning.specs.Listed.{look_at};
+ghost use Rattle.meaning.specs.Tables.{opens};
+ghost use Rattle.tables.specs.Scan.{front, has_end, after, free_by, last_by, answer_by};
+ghost use Rattle.tables.specs.Looks.{looks_left};
 
-use rules::Kind;
+use crate::table::Looks;
+use rules::{Kind, byte_of, opposite, side_of};
 use stores::Look;
 
-// The byte of a literal's variable.
-fn byte_of(partial: &[u8], literal: i32) -> u8
-    requires { Literal (length partial.now) literal }
-    ensures { result ≡ slice_index partial.now (place literal) }
-{
-    let v = literal.unsigned_abs() as usize;
-    partial[v - 1]
-}
-
-// The byte that makes a literal true.
-fn wanted(literal: i32) -> u8
-    ensures { result ≡ side literal }
-{
-    if literal < 0 { 2 } else { 1 }
-}
-
-fn negated(literal: i32) -> i32
-    requires { unsigned_abs literal ≤ 2048 }
-    ensures { result ≡ neg_ℤ literal }
-{
-    -literal
-}
-
+#[tactic(auto, using(crate::proofs::Parity::odd_rest))]
 fn is_odd(count: usize) -> bool
     ensures { result ≡ is_odd count }
 {
@@ -60,7 +42,7 @@ impl Tally {
                 last: literal,
                 ..self
             }
-        } else if byte == wanted(literal) {
+        } else if byte == side_of(literal) {
             Tally {
                 trues: self.trues + 1,
                 ..self
@@ -92,7 +74,7 @@ impl Tally {
         match (self.free, is_odd(self.trues)) {
             (0, true) => Look::Settled,
             (0, false) => Look::Broken,
-            (1, true) => Look::Forces(negated(self.last)),
+            (1, true) => Look::Forces(opposite(self.last)),
             (1, false) => Look::Forces(self.last),
             _ => Look::Open(self.free),
         }
@@ -109,66 +91,54 @@ impl Tally {
     }
 }
 
-// The tally of the rule that begins at an index, and the index after the rule.
-fn tally_at(table: &[i32], at: usize, partial: &[u8]) -> (Tally, usize)
-    requires { (has_end (drop at table.now) ≡ true) × (Each (Literal (length partial.now)) (front (drop at table.now))) }
-    ensures trues { result.0.trues ≡ true_count partial.now (front (drop at table.now)) }
-    ensures free { result.0.free ≡ length (free_of partial.now (front (drop at table.now))) }
-    ensures last { result.0.last ≡ last_of (free_of partial.now (front (drop at table.now))) }
-    ensures next { result.1 ≡ next_of table.now at }
+// A look at the first rule that a table holds, and what stands after the rule.
+pub fn look_first<'a>(kind: Kind, table: &'a [i32], partial: &[u8]) -> Option<(Look, &'a [i32])>
+    requires { opens (length partial.now) table.now ≡ true }
+    ensures { MatchOption result (table.now ≡ []) (λ r. (has_end table.now ≡ true) × ((r.0 ≡ look_at kind partial.now (front table.now)) × (r.1.now ≡ after table.now))) }
 {
-    let mut i = at;
     let mut tally = Tally {
         trues: 0,
         free: 0,
         last: 0,
     };
-    while table[i] != 0 {
-        let literal = table[i];
-        tally = tally.with(literal, byte_of(partial, literal));
-        i += 1;
+    let mut rest = table;
+    while let Some((literal, more)) = rest.split_first() {
+        rest = more;
+        if *literal == 0 {
+            return Some((tally.answer(kind), rest));
+        }
+        tally = tally.with(*literal, byte_of(partial, *literal));
     }
-    (tally, i + 1)
+    None
 }
 
-// A look at the rule that begins at an index, and the index after the rule.
-pub fn rule_at(kind: Kind, table: &[i32], at: usize, partial: &[u8]) -> (Look, usize)
-    requires { (has_end (drop at table.now) ≡ true) × ((Each (Literal (length partial.now)) (front (drop at table.now))) × (length partial.now ≤ 2048)) }
-    ensures look { result.0 ≡ look_at kind partial.now (front (drop at table.now)) }
-    ensures next { result.1 ≡ next_of table.now at }
+// The literals of the first rule that a table holds: that very part of the table.
+pub fn first_rule<'a>(table: &'a [i32]) -> &'a [i32]
+    requires { has_end table.now ≡ true }
+    ensures value { result.now ≡ front table.now }
+    ensures place { result.ref_ptr ≡ table.entry.ref_ptr }
 {
-    let (tally, next) = tally_at(table, at, partial);
-    (tally.answer(kind), next)
-}
-
-// The index after the rule that begins at an index.
-pub fn next_rule(table: &[i32], at: usize) -> usize
-    requires { has_end (drop at table.now) ≡ true }
-    ensures next { result ≡ next_of table.now at }
-    ensures within { result ≤ length table.now }
-{
-    let mut i = at;
-    while table[i] != 0 {
-        i += 1;
+    let mut rest = table;
+    while let Some((number, more)) = rest.split_first() {
+        if *number == 0 {
+            return &table[..table.len() - rest.len()];
+        }
+        rest = more;
     }
-    i + 1
+    table
 }
 
-// That very part of a table, from one index up to another.
-fn part<'a>(table: &'a [i32], from: usize, to: usize) -> &'a [i32]
-    requires { (from ≤ to) × (to ≤ length table.now) }
-    ensures value { result.now ≡ slice_range table.now from to }
-    ensures place { result.ref_ptr ≡ (table.entry.ref_ptr.0, table.entry.ref_ptr.1 + from * 4) }
-{
-    &table[from..to]
-}
+impl<'a, 'b> Iterator for Looks<'a, 'b> {
+    type Item = Look;
 
-// The literals of the rule that begins at an index: that very part of the table.
-pub fn literals_at<'a>(table: &'a [i32], at: usize) -> &'a [i32]
-    requires { has_end (drop at table.now) ≡ true }
-    ensures value { result.now ≡ front (drop at table.now) }
-    ensures place { result.ref_ptr ≡ (table.entry.ref_ptr.0, table.entry.ref_ptr.1 + at * 4) }
-{
-    let end = next_rule(table, at) - 1;
-    part(table, at, end)
+    ghost next_gives = { YieldsFirst looks_left };
+
+    ghost remaining = { item_count looks_left };
+
+    #[tactic(auto, using(crate::proofs::Rows::open_after, crate::proofs::Rows::parts_first))]
+    fn next(&mut self) -> Option<Look> {
+        let (look, rest) = look_first(self.kind, self.table, self.partial)?;
+        self.table = rest;
+        Some(look)
+    }
 }

@@ -1,4 +1,4 @@
-// A table of rules of one kind over lent numbers, with what is known of it.
+// A table of rules of one kind over lent numbers, with what is known of it, and the looks at its rules.
 ghost use Rattle.std.specs.Prelude.{◌≡◌, true, length};
 ghost use Rattle.meaning.specs.Tables.{parts, opens};
 
@@ -13,4 +13,13 @@ pub struct Table<'a> {
     pub(crate) rules: usize,
     ghost sound: { opens vars table.now ≡ true },
     ghost counted: { length (parts table.now) ≡ rules },
+}
+
+// The looks at the rules that a table holds, one after the other, under a partial.
+#[derive(Drop)]
+pub(crate) struct Looks<'a, 'b> {
+    pub(crate) kind: Kind,
+    pub(crate) table: &'a [i32],
+    pub(crate) partial: &'b [u8],
+    ghost sound: { opens (length partial.now) table.now ≡ true },
 }

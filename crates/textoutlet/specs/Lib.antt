@@ -1,2 +1,3 @@
+pub mod Counting
 pub mod TextHeld
 pub mod TextLaws

@@ -1,6 +1,7 @@
 //! An outlet that writes a line of text for each entry.
 #![tactic(auto)]
 
-pub mod out;
+mod counts;
+mod out;
 
 pub use out::TextOutlet;

@@ -1,125 +1,88 @@
 // Entries as lines in lent bytes: letter, number within the kind, literals.
-ghost use Rattle.std.specs.Prelude.{◌≡◌, ℕ, ◌+◌, ◌-◌, ◌^◌, ◌<◌, true, List, [], ◌∷◌, ◌++◌, length, take};
+ghost use Rattle.std.specs.Prelude.{◌≡◌, ◌+◌, ◌*◌, ◌^◌, ◌<◌, ◌≤◌, ◌-◌, List, [], length};
 ghost use Rattle.std.specs.List.{AllByRecursion};
-ghost use Rattle.outlet.specs.Entries.{Entry, entry_of};
-ghost use Rattle.lines.specs.Lines.{text, of_kind, NarrowEntry};
-ghost use Rattle.textoutlet.specs.TextHeld.{HoldsText, KeepsText, room_for, text_fit};
-ghost use Rattle.textoutlet.specs.TextLaws.{text_laws};
+ghost use Rattle.stack.specs.Items.{spares};
+ghost use Rattle.outlet.specs.Memory.{Appended};
+ghost use Rattle.lines.specs.Lines.{Narrow};
+ghost use Rattle.textoutlet.specs.Counting.{next_line};
 
-use lines::{line_fits, put_line};
-use outlet::{Kind, Outlet, Refusal};
+use crate::counts::Counts;
+use outlet::{Kind, Outlet};
+use stack::Stack;
 
-// Of `bytes` the first `used` are written; entries are numbered within their kind.
-#[derive(Drop)]
-pub struct TextOutlet<'a> {
-    bytes: &'a mut [u8],
-    used: usize,
-    cubes: u64,
-    learnt: u64,
+// Puts the line of an entry behind the text, where there is room for it.
+fn put_next(text: &mut Stack<u8>, counts: Counts, kind: Kind, lits: &[i32])
+    requires few { counts.cubes + counts.learnt < 2 ^ 64 - 1 }
+    requires room { length (next_line counts kind lits.now) ≤ length (spares text.old) }
+    ensures line { Appended text.old (next_line counts kind lits.now) text.new }
+    ensures narrow { AllByRecursion Narrow lits.now }
+{
+    counts.line(kind, lits).put(text);
 }
 
-// The two counts with one more of a kind.
-fn counted(kind: Kind, cubes: u64, learnt: u64) -> (u64, u64)
-    requires { of_kind kind cubes learnt < 2 ^ 64 - 1 }
-    ensures { (result.0 ≡ cubes + of_kind kind 1 0) × (result.1 ≡ learnt + of_kind kind 0 1) }
-{
-    match kind {
-        Kind::Cube => (cubes + 1, learnt),
-        Kind::Learnt => (cubes, learnt + 1),
-    }
+// Entries are numbered within their kind. A line has four bytes at least, so no count reaches its limit.
+#[derive(Drop)]
+pub struct TextOutlet<'a> {
+    text: Stack<'a, u8>,
+    counts: Counts,
+    ghost few: { 4 * (counts.cubes + counts.learnt) ≤ text.len },
+    ghost addressed: { length text.cells.now < 2 ^ 64 },
 }
 
 impl<'a> TextOutlet<'a> {
+    ghost use Rattle.stack.specs.Items.{items};
+    ghost use Rattle.outlet.specs.Entries.{Entry};
+    ghost use Rattle.lines.specs.Lines.{text, NarrowEntry};
+    ghost use Rattle.textoutlet.specs.TextHeld.{HoldsText};
+
     // An empty outlet over all of the memory, which is not written.
     pub fn new(bytes: &'a mut [u8]) -> TextOutlet<'a>
         ensures means { HoldsText result [] }
-        ensures memory { (result.used ≡ 0) × (result.bytes.now ≡ bytes.old) }
-        ensures same { result.bytes.ghost_name ≡ bytes.entry.ghost_name }
+        ensures memory { (result.text.len ≡ 0) × (result.text.cells.now ≡ bytes.old) }
+        ensures same { result.text.cells.ghost_name ≡ bytes.entry.ghost_name }
     {
         TextOutlet {
-            bytes,
-            used: 0,
-            cubes: 0,
-            learnt: 0,
-        }
-    }
-
-    // The written part.
-    fn written(&self) -> &[u8]
-        ensures { result.now ≡ take self.now.used self.now.bytes.now }
-    {
-        if self.used <= self.bytes.len() {
-            &self.bytes[0..self.used]
-        } else {
-            self.bytes
+            text: Stack::new(bytes),
+            counts: Counts {
+                cubes: 0,
+                learnt: 0,
+            },
         }
     }
 
     // The text: exactly the lines of the entries, which no other list of entries has.
+    #[tactic(auto, using(crate::proofs::Held::told))]
     pub fn as_slice(&self) -> &[u8]
-        ensures value { result.now ≡ take self.now.used self.now.bytes.now }
+        ensures value { result.now ≡ items self.now.text }
         ensures means { (es : List Entry) → HoldsText self.now es → result.now ≡ text es }
         ensures told { (es fs : List Entry) → HoldsText self.now es → AllByRecursion NarrowEntry fs → result.now ≡ text fs → fs ≡ es }
     {
-        self.written()
-    }
-
-    fn count(&self, kind: Kind) -> u64
-        ensures { result ≡ of_kind kind self.now.cubes self.now.learnt }
-    {
-        match kind {
-            Kind::Cube => self.cubes,
-            Kind::Learnt => self.learnt,
-        }
-    }
-
-    // Whether an entry fits.
-    fn has_room(&self, kind: Kind, lits: &[i32]) -> bool
-        ensures value { result ≡ room_for self.now kind lits.now }
-        ensures fits { (es : List Entry) → HoldsText self.now es → result ≡ text_fit (length self.now.bytes.now) es (entry_of kind lits.now) }
-    {
-        let n = self.count(kind);
-        let size = self.bytes.len();
-        if n == u64::MAX || self.used > size {
-            return false;
-        }
-        line_fits(n + 1, lits, size - self.used)
-    }
-
-    // Writes the line of an entry that fits.
-    fn append(&mut self, kind: Kind, lits: &[i32])
-        requires { room_for self.old kind lits.now ≡ true }
-        ensures entries { (es : List Entry) → HoldsText self.old es → HoldsText self.new (es ++ entry_of kind lits.now ∷ []) }
-        ensures size { length self.new.bytes.now ≡ length self.old.bytes.now }
-        ensures kept { KeepsText self.old self.new }
-    {
-        let n = self.count(kind) + 1;
-        let (cubes, learnt) = counted(kind, self.cubes, self.learnt);
-        let at = self.used;
-        self.used = put_line(self.bytes, at, kind, n, lits);
-        self.cubes = cubes;
-        self.learnt = learnt;
+        self.text.as_slice()
     }
 }
 
 impl<'a> Outlet for TextOutlet<'a> {
+    ghost use Rattle.stack.specs.Items.{size};
+    ghost use Rattle.textoutlet.specs.TextHeld.{HoldsText, KeepsText, room_for, text_fit};
+    ghost use Rattle.textoutlet.specs.TextLaws.{text_laws};
+
     ghost means = { HoldsText };
 
-    ghost fitting = { λ o. text_fit (length o.bytes.now) };
+    ghost fitting = { λ o. text_fit (size o.text) };
+
+    ghost has_room = { room_for };
 
     ghost keeps = { KeepsText };
 
     ghost laws = { text_laws };
 
+    #[tactic(auto, using(crate::proofs::Held::fit_is))]
     fn fits(&self, kind: Kind, lits: &[i32]) -> bool {
-        self.has_room(kind, lits)
+        self.counts.line(kind, lits).fits(self.text.spare_len())
     }
 
-    fn put(&mut self, kind: Kind, lits: &[i32]) -> Result<(), Refusal> {
-        if !self.has_room(kind, lits) {
-            return Err(Refusal::NoRoom);
-        }
-        self.append(kind, lits);
-        Ok(())
+    fn append(&mut self, kind: Kind, lits: &[i32]) {
+        put_next(&mut self.text, self.counts, kind, lits);
+        self.counts.add(kind);
     }
 }

@@ -1,5 +1,5 @@
 ghost use Rattle.std.specs.Prelude.{◌≡◌, ℕ, ◌+◌, ◌-◌, true, false, not, List, [], length, drop, if◌then◌else◌, nat_lt};
-ghost use Rattle.book.specs.Marks.{number_of, marks_of, free_rows, mark_at, moves, asked, changed, event_of, lend_reply, settle_reply, enter_reply, entered, same_mark, tally_of};
+ghost use Rattle.book.specs.Marks.{number_of, marks_of, free_rows, mark_at, moves, asked, ChangesOnly, event_of, lend_reply, settle_reply, enter_reply, entered, tally_of};
 ghost use Rattle.book.specs.declared.held.Event.TheVariants.{Lend};
 
 use super::{Book, Event, Loan, Mark, Refusal, Word};
@@ -9,34 +9,32 @@ impl Refusal {
     pub fn number(self) -> u32
         ensures { result ≡ number_of self }
     {
-        match self {
-            Refusal::Full => 23,
-            Refusal::NotWaiting => 26,
-            Refusal::NotOut => 27,
+        self as u32
+    }
+}
+
+impl Mark {
+    // A state and an event together; other pairs are refused.
+    fn after(self, event: Event) -> Option<Mark>
+        ensures { result ≡ moves self event }
+    {
+        match (self, event) {
+            (Mark::Waiting, Event::Lend) => Some(Mark::Out),
+            (Mark::Out, Event::Close) => Some(Mark::Closed),
+            (Mark::Out, Event::Back) => Some(Mark::Waiting),
+            _ => None,
         }
     }
 }
 
-// A state and an event together; other pairs are refused.
-fn moved(mark: Mark, event: Event) -> Option<Mark>
-    ensures { result ≡ moves mark event }
-{
-    match (mark, event) {
-        (Mark::Waiting, Event::Lend) => Some(Mark::Out),
-        (Mark::Out, Event::Close) => Some(Mark::Closed),
-        (Mark::Out, Event::Back) => Some(Mark::Waiting),
-        _ => None,
-    }
-}
+impl From<Word> for Event {
+    ghost from_gives = { λ word event. event ≡ event_of word };
 
-fn same(a: Mark, b: Mark) -> bool
-    ensures { result ≡ same_mark a b }
-{
-    match (a, b) {
-        (Mark::Waiting, Mark::Waiting) => true,
-        (Mark::Out, Mark::Out) => true,
-        (Mark::Closed, Mark::Closed) => true,
-        _ => false,
+    fn from(word: Word) -> Event {
+        match word {
+            Word::Closed => Event::Close,
+            Word::Back => Event::Back,
+        }
     }
 }
 
@@ -58,28 +56,27 @@ impl Book {
         }
     }
 
+    // The states of the cubes, cube 1 first.
+    fn states(&self) -> &[Mark]
+        ensures { result.now ≡ marks_of self.now }
+    {
+        &self.marks[..self.count as usize]
+    }
+
     // The state of a cube; none where there is no such cube.
     pub fn state(&self, cube: u16) -> Option<Mark>
         ensures { result ≡ mark_at (marks_of self.now) cube }
     {
-        if cube == 0 || cube > self.count {
-            return None;
-        }
-        Some(self.marks[cube as usize - 1])
+        let row = cube.checked_sub(1)? as usize;
+        self.states().get(row).copied()
     }
 
     // Changes one entry by an event, if the pair is not refused.
     fn act(&mut self, cube: u16, event: Event) -> Option<Mark>
         ensures value { result ≡ asked (marks_of self.old) cube event }
-        ensures marks { marks_of self.new ≡ changed (marks_of self.old) cube result }
-        ensures free { free_rows self.new ≡ free_rows self.old }
+        ensures rows { ChangesOnly self.old self.new cube result }
     {
-        let Some(mark) = self.state(cube) else {
-            return None;
-        };
-        let Some(next) = moved(mark, event) else {
-            return None;
-        };
+        let next = self.state(cube)?.after(event)?;
         self.marks[cube as usize - 1] = next;
         Some(next)
     }
@@ -93,10 +90,9 @@ impl Book {
         if self.is_full() {
             return Err(Refusal::Full);
         }
-        let n = self.count;
-        self.marks[n as usize] = Mark::Waiting;
-        self.count = n + 1;
-        Ok(n + 1)
+        self.marks[self.count as usize] = Mark::Waiting;
+        self.count += 1;
+        Ok(self.count)
     }
 
     pub fn is_full(&self) -> bool
@@ -108,30 +104,22 @@ impl Book {
     // Lends a waiting cube out.
     pub fn lend(&mut self, cube: u16) -> Result<Loan, Refusal>
         ensures value { result ≡ lend_reply (asked (marks_of self.old) cube Lend) cube }
-        ensures marks { marks_of self.new ≡ changed (marks_of self.old) cube (asked (marks_of self.old) cube Lend) }
-        ensures free { free_rows self.new ≡ free_rows self.old }
+        ensures rows { ChangesOnly self.old self.new cube (asked (marks_of self.old) cube Lend) }
     {
-        match self.act(cube, Event::Lend) {
-            Some(_) => Ok(Loan {
-                cube,
-                settled: false,
-            }),
-            None => Err(Refusal::NotWaiting),
-        }
+        self.act(cube, Event::Lend).ok_or(Refusal::NotWaiting)?;
+        Ok(Loan {
+            cube,
+            settled: false,
+        })
     }
 
     // Settles a loan, which then may be let go. That it was not settled before is for the caller to prove.
     pub fn settle(&mut self, mut loan: Loan, word: Word) -> Result<Loan, (Refusal, Loan)>
         requires { loan.settled ≡ false }
         ensures value { result ≡ settle_reply (asked (marks_of self.old) loan.cube (event_of word)) loan }
-        ensures marks { marks_of self.new ≡ changed (marks_of self.old) loan.cube (asked (marks_of self.old) loan.cube (event_of word)) }
-        ensures free { free_rows self.new ≡ free_rows self.old }
+        ensures rows { ChangesOnly self.old self.new loan.cube (asked (marks_of self.old) loan.cube (event_of word)) }
     {
-        let event = match word {
-            Word::Closed => Event::Close,
-            Word::Back => Event::Back,
-        };
-        match self.act(loan.cube, event) {
+        match self.act(loan.cube, word.into()) {
             Some(_) => {
                 loan.settled = true;
                 Ok(loan)
@@ -144,14 +132,6 @@ impl Book {
     pub fn tally(&self, mark: Mark) -> u16
         ensures { result ≡ tally_of mark (marks_of self.now) }
     {
-        let mut n = 0;
-        let mut i = 0;
-        while i < self.count {
-            if same(self.marks[i as usize], mark) {
-                n += 1;
-            }
-            i += 1;
-        }
-        n
+        self.states().iter().filter(|&&m| m == mark).count() as u16
     }
 }

@@ -1,155 +1,127 @@
-use Rattle.std.proofs.Common.{◌≡◌, ℕ, ◌-◌, ◌≤◌, List, length, take, ℤ, sym, ap, ◌∙◌, subst, arith}
-use Rattle.rules.specs.Literals.{Literal, Each, Partial, Extends}
+use Rattle.std.proofs.Common.{◌≡◌, ℕ, List, true, false, take, ℤ, Option, Ok, Err, Result, sym, refl, ap, ◌∙◌, subst}
+use Rattle.std.specs.Prelude.{IfOk, IsErr}
+use Rattle.std.proofs.lemmas.Bool.{true≢false}
+use Rattle.rules.specs.Literals.{Partial, Extends}
 use Rattle.stores.specs.Stores.{Store, Keeps}
 use Rattle.stores.specs.Walks.{gained}
-use Rattle.closing.specs.Closing.{close, left}
-use Rattle.closing.proofs.Partials.{extends_self, extends_on}
-use Rattle.closing.proofs.Right.{right}
-use Rattle.lookahead.specs.Trials.{common, by_gains, rank_of}
-use Rattle.lookahead.specs.Answers.{news, set_all, held, goes_on, most_gain, Low}
-use Rattle.lookahead.specs.declared.kinds.Left.TheVariants as side
+use Rattle.closing.specs.Closing.{close, ended, left}
+use Rattle.closing.specs.declared.ending.Clash.{Clash}
+use Rattle.lookahead.specs.declared.kinds.Gains.{Gains}
+use Rattle.lookahead.specs.declared.trials.Kept.{Kept}
+use Rattle.lookahead.specs.Trials.{Scored, Pass, dead, common, by_gains, rank_of}
+use Rattle.lookahead.specs.Answers.{Taken, goes_on, set_all, held}
 use Rattle.lookahead.proofs.Partials.{common_adds, common_partial}
-use Rattle.lookahead.proofs.Gains.{gained_low}
 use Rattle.lookahead.proofs.Sides.{set_held, set_news}
-use Rattle.lookahead.proofs.Turns.{ends_by, no_side, false_side, true_side, both_sides, ranked_low}
+use Rattle.lookahead.proofs.Turns.{true_side, shared_clashes, shared_closes, side_adds, closes_more, gain_low}
 use Rattle.lookahead.proofs.trials.trial.Goals as goal
 
--- the part of the places that was written
-whole : (k : ℕ) → k - 0 ≡ k
-whole k = omega arith
+taken_at : (s : Store) (p q : List ℕ) (places : List ℤ) (r : Result Kept Clash) (k : Kept) → r ≡ Ok k → IfOk r (λ k. Taken s p q places k.gain k.news) → Taken s p q places k.gain k.news
+taken_at s p q places r k e h = subst (λ u. IfOk u (λ k. Taken s p q places k.gain k.news)) e h
 
-written : (n k : ℕ) (places : List ℤ) → Each (Literal n) (take k places) → Each (Literal n) (take (k - 0) places)
-written n k places each = subst (λ j. Each (Literal n) (take j places)) (sym (whole k)) each
+-- where both sides close, the new literals of q that hold on r too, set in p, give u: what q and r share; closing it only adds to p
+module _ (s : Store) (keep : Keeps s) (p q r : List ℕ) (places : List ℤ) (t k : ℕ) (fp : Partial s.n p) (fq : Partial s.n q) (fr : Partial s.n r) (adds : Extends q p) (taken : Taken s p q places t k) where
+  shares : set_all p (held r (take k places)) ≡ common p q r
+  shares = ap (λ ls. set_all p (held r ls)) taken.front ∙ set_held s.n p q fp fq adds r fr
 
-pub returns-in-Neither : goal.returns-in-Neither
-returns-in-Neither g c =
-    let s = g.S.Rules.means c.args.store.now in
-    let p = c.args.partial.now in
-    let ends = ends_by c.try_side-first.result c.try_side-second.result side.Neither c.in-Neither.ensures in
-    record {
-      value = λ go xs.
-          no_side s (by_gains s) p c.args.i go xs c.try_side-first.result c.try_side-second.result c.try_side-first.new.side c.try_side-second.new.side
-          c.try_side-first.ensures.value c.try_side-second.ensures.value ends;
-      fit = c.requires.0;
-      adds = extends_self p;
-      low = tt;
-    }
+  shared_adds : (v : List ℕ) → v ≡ left s (set_all p (held r (take k places))) → Extends v p
+  shared_adds v leaves = closes_more s keep p (common p q r) v (common_partial s.n p q r fp fq) (common_adds p q r adds) (leaves ∙ ap (left s) shares)
 
-pub returns-in-False : goal.returns-in-False
-returns-in-False g c =
-    let s = g.S.Rules.means c.args.store.now in
-    let p = c.args.partial.now in
-    let r = c.try_side-second.new.side in
-    let after = c.copy_from_slice.ensures.after in
-    let ends = ends_by c.try_side-first.result c.try_side-second.result side.False c.in-False.ensures in
-    record {
-      value = λ go xs.
-          false_side s (by_gains s) p c.args.i go xs c.try_side-first.result c.try_side-second.result c.try_side-first.new.side r
-          c.try_side-first.ensures.value c.try_side-second.ensures.value ends
-          ∙ ap (λ u. go u xs) (sym after);
-      fit = subst (Partial s.n) (sym after) c.try_side-second.ensures.fit;
-      adds = subst (λ u. Extends u p) (sym after) (c.try_side-second.ensures.adds c.requires.1.1.1.1);
-      low = tt;
-    }
+  ranks : (y f : ℕ) → y ≡ t → f ≡ gained s p r → rank_of (gained s p q) (gained s p r) ≡ rank_of y f
+  ranks y f d e = ap (λ k. rank_of k (gained s p r)) (sym (d ∙ taken.gains)) ∙ ap (rank_of y) (sym e)
 
 pub slice_bounds-adopt-end : goal.slice_bounds-adopt-end
-slice_bounds-adopt-end g c = c.take_side-yes.ensures.few
+slice_bounds-adopt-end g c =
+    let first = c.try_true_side-first in
+    (taken_at (g.S.Rules.means c.args.store.now) c.args.partial.now first.new.side first.new.places first.result c.in-Ok-Err.kept c.in-Ok-Err.is-0 first.ensures.kept).few
 
-pub adopt-requires : goal.adopt-requires
-adopt-requires g c =
-    let ends = ends_by c.try_side-first.result c.try_side-second.result side.True c.in-True.ensures in
-    let taken = c.take_side-yes.ensures.taken ends.0 in
-    written (length c.args.partial.now) c.take_side-yes.result.1 c.take_side-yes.new.places taken.literals
+pub slice_bounds-news-end : goal.slice_bounds-news-end
+slice_bounds-news-end g c =
+    let first = c.try_true_side-first in
+    (taken_at (g.S.Rules.means c.args.store.now) c.args.partial.now first.new.side first.new.places first.result c.in-Ok-Ok.kept c.in-Ok-Ok.is-0 first.ensures.kept).few
 
-pub returns-in-True : goal.returns-in-True
-returns-in-True g c =
+pub share-requires : goal.share-requires
+share-requires g c =
     let s = g.S.Rules.means c.args.store.now in
     let p = c.args.partial.now in
-    let q = c.try_side-first.new.side in
-    let k = c.take_side-yes.result.1 in
-    let ends = ends_by c.try_side-first.result c.try_side-second.result side.True c.in-True.ensures in
-    let taken = c.take_side-yes.ensures.taken ends.0 in
-    let fq = c.try_side-first.ensures.fit in
-    let adds = c.try_side-first.ensures.adds c.requires.1.1.1.1 in
-    let after : c.adopt.new.partial ≡ q =
-    c.adopt.ensures ∙ ap (λ j. set_all p (take j c.take_side-yes.new.places)) (whole k) ∙ ap (set_all p) taken.front ∙ set_news s.n p q c.requires.0 fq adds
-    in
+    let first = c.try_true_side-first in
+    let taken = taken_at s p first.new.side first.new.places first.result c.in-Ok-Ok.kept c.in-Ok-Ok.is-0 first.ensures.kept in
     record {
-      value = λ go xs.
-          true_side s (by_gains s) p c.args.i go xs c.try_side-first.result c.try_side-second.result q c.try_side-second.new.side
-          c.try_side-first.ensures.value c.try_side-second.ensures.value ends
-          ∙ ap (λ u. go u xs) (sym after);
-      fit = subst (Partial s.n) (sym after) fq;
-      adds = subst (λ u. Extends u p) (sym after) adds;
-      low = tt;
+      sides = (c.requires.0, c.try_side-second.ensures.fit);
+      news = taken.literals;
+      low = gain_low s (g.S.Rules.laws.few_rules c.args.store.now) p first.new.side c.in-Ok-Ok.kept.gain taken.gains;
     }
 
-pub slice_bounds-adopt_held-end : goal.slice_bounds-adopt_held-end
-slice_bounds-adopt_held-end g c = c.take_side-yes.ensures.few
-
-pub adopt_held-requires : goal.adopt_held-requires
-adopt_held-requires g c =
-    let ends = ends_by c.try_side-first.result c.try_side-second.result side.Both c.in-Both.ensures in
-    let taken = c.take_side-yes.ensures.taken ends.0 in (
-      written (length c.args.partial.now) c.take_side-yes.result.1 c.take_side-yes.new.places taken.literals,
-      c.try_side-second.ensures.fit.long ∙ sym c.requires.0.long,
-    )
-
--- what both sides have set is set in the partial
-both_set :
-    (n : ℕ) (p q r u : List ℕ) (places : List ℤ) (k : ℕ) → Partial n p → Partial n q → Partial n r → Extends q p → u ≡ set_all p (held r (take (k - 0) places)) → take k places ≡ news 0 p q → u ≡ common p q r
-both_set n p q r u places k fp fq fr adds e f =
-    e ∙ ap (λ j. set_all p (held r (take j places))) (whole k) ∙ ap (λ ls. set_all p (held r ls)) f ∙ set_held n p q fp fq adds r fr
-
-pub close-requires : goal.close-requires
-close-requires g c =
-    let s = g.S.Rules.means c.args.store.now in
+pub returns-in-Err-Ok-clause-adds : goal.returns-in-Err-Ok-clause-adds
+returns-in-Err-Ok-clause-adds g c =
     let p = c.args.partial.now in
-    let q = c.try_side-first.new.side in
-    let r = c.try_side-second.new.side in
-    let fq = c.try_side-first.ensures.fit in
-    let ends = ends_by c.try_side-first.result c.try_side-second.result side.Both c.in-Both.ensures in
-    let taken = c.take_side-yes.ensures.taken ends.0 in
-    let same = both_set s.n p q r c.adopt_held.new.partial c.take_side-yes.new.places c.take_side-yes.result.1 c.requires.0 fq c.try_side-second.ensures.fit (c.try_side-first.ensures.adds c.requires.1.1.1.1) c.adopt_held.ensures taken.front in
-    subst (Partial s.n) (sym same) (common_partial s.n p q r c.requires.0 fq)
+    subst (λ u. Extends u p) (sym c.copy_from_slice.ensures.after)
+    (side_adds (g.S.Rules.means c.args.store.now) (g.S.Rules.laws.keeps c.args.store.now) p c.args.i false c.try_side-second.new.side c.requires.0 c.requires.1.1.1.1 c.try_side-second.ensures.leaves)
 
--- closing what both sides have set only adds to the partial
-adds_on : (s : Store) → Keeps s → (p q r u v : List ℕ) → Partial s.n p → Partial s.n q → Extends q p → u ≡ common p q r → v ≡ left s u → Extends v p
-adds_on s keep p q r u v fp fq adds same leaves =
-    let fu = subst (Partial s.n) (sym same) (common_partial s.n p q r fp fq) in
-    extends_on v u p (subst (λ w. Extends w u) (sym leaves) ((right s keep).left_sets_free u fu)) (subst (λ w. Extends w p) (sym same) (common_adds p q r adds))
-
--- a gain is at most 1,000 for each of 16,384 rules
-gain_low : (s : Store) → s.m ≤ 16384 → (p q : List ℕ) (k : ℕ) → k ≡ gained s p q → k ≤ most_gain
-gain_low s few p q k e = omega (arith, gained_low s p q)
-
-pub returns-in-Both : goal.returns-in-Both
-returns-in-Both g c =
+pub returns-in-Ok-Err : goal.returns-in-Ok-Err
+returns-in-Ok-Err g c =
     let s = g.S.Rules.means c.args.store.now in
     let keep = g.S.Rules.laws.keeps c.args.store.now in
-    let few = g.S.Rules.laws.few_rules c.args.store.now in
     let p = c.args.partial.now in
-    let i = c.args.i in
-    let q = c.try_side-first.new.side in
-    let r = c.try_side-second.new.side in
-    let u = c.adopt_held.new.partial in
-    let v = c.close.new.partial in
-    let fq = c.try_side-first.ensures.fit in
-    let adds = c.try_side-first.ensures.adds c.requires.1.1.1.1 in
-    let t = c.take_side-yes.result.0 in
-    let f = c.gain-no.result in
-    let ends = ends_by c.try_side-first.result c.try_side-second.result side.Both c.in-Both.ensures in
-    let taken = c.take_side-yes.ensures.taken ends.0 in
-    let same = both_set s.n p q r u c.take_side-yes.new.places c.take_side-yes.result.1 c.requires.0 fq c.try_side-second.ensures.fit adds c.adopt_held.ensures taken.front in
-    let ranked : rank_of (gained s p q) (gained s p r) ≡ rank_of t f =
-    ap (λ k. rank_of k (gained s p r)) (sym taken.gains) ∙ ap (rank_of t) (sym c.gain-no.ensures)
-    in
+    let first = c.try_true_side-first in
+    let second = c.try_side-second in
+    let q = first.new.side in
+    let taken = taken_at s p q first.new.places first.result c.in-Ok-Err.kept c.in-Ok-Err.is-0 first.ensures.kept in
+    let adds = side_adds s keep p c.args.i true q c.requires.0 c.requires.1.1.1.1 first.ensures.leaves in
+    let after : c.adopt.new.partial ≡ q = c.adopt.ensures ∙ ap (set_all p) taken.front ∙ set_news s.n p q c.requires.0 first.ensures.fit adds in
+    record {
+      value = λ go xs. true_side s (by_gains s) p c.args.i go xs q (ap (λ u. ended u q) (sym c.in-Ok-Err.is-0) ∙ first.ensures.value) (ap (λ u. ended u second.new.side) (sym c.in-Ok-Err.is-1) ∙ second.ensures.value) ∙ ap (λ u. go u xs) (sym after);
+      fit = subst (Partial s.n) (sym after) first.ensures.fit;
+      adds = subst (λ u. Extends u p) (sym after) adds;
+    }
+
+-- a clash ends the pass
+ends : (r : Result (Option Gains) Clash) → IsErr r → (go : List ℕ → List Scored → Pass) (p : List ℕ) (i : ℕ) (xs : List Scored) → dead ≡ goes_on r go p i xs
+ends (Ok o) h go p i xs = absurd (true≢false (sym h))
+ends (Err e) h go p i xs = refl
+
+pub returns-in_err-gains-in-Ok-Ok : goal.returns-in_err-gains-in-Ok-Ok
+returns-in_err-gains-in-Ok-Ok g c =
+    let s = g.S.Rules.means c.args.store.now in
+    let keep = g.S.Rules.laws.keeps c.args.store.now in
+    let p = c.args.partial.now in
+    let first = c.try_true_side-first in
+    let q = first.new.side in
+    let second = c.try_side-second in
+    let r = second.new.side in
+    let v = c.share.new.partial in
+    let kept = c.in-Ok-Ok.kept in
+    let taken = taken_at s p q first.new.places first.result kept c.in-Ok-Ok.is-0 first.ensures.kept in
+    let adds = side_adds s keep p c.args.i true q c.requires.0 c.requires.1.1.1.1 first.ensures.leaves in
+    let same = shares s keep p q r first.new.places kept.gain kept.news c.requires.0 first.ensures.fit second.ensures.fit adds taken in
     record {
       value = λ go xs.
-          both_sides s (by_gains s) p i go xs c.try_side-first.result c.try_side-second.result q r
-          c.try_side-first.ensures.value c.try_side-second.ensures.value ends c.close.result v (c.close.ensures.value ∙ ap (close s) same) t f ranked
-          ∙ ap (λ k. goes_on k go v i xs) (sym c.ranked.ensures);
-      fit = c.close.ensures.fit;
-      adds = adds_on s keep p q r u v c.requires.0 fq adds same c.close.ensures.leaves;
-      low = subst Low (sym c.ranked.ensures) (ranked_low c.close.result t f (gain_low s few p q t taken.gains) (gain_low s few p r f c.gain-no.ensures));
+          shared_clashes s (by_gains s) p c.args.i go xs q r (ap (λ u. ended u q) (sym c.in-Ok-Ok.is-0) ∙ first.ensures.value) (ap (λ u. ended u r) (sym c.in-Ok-Ok.is-1) ∙ second.ensures.value)
+          (c.in_err-gains-in-Ok-Ok.ensures.value ∙ ap (close s) same) ∙ ends c.from_residual.result c.from_residual.ensures.0 go v c.args.i xs;
+      fit = c.share.ensures.fit;
+      adds = shared_adds s keep p q r first.new.places kept.gain kept.news c.requires.0 first.ensures.fit second.ensures.fit adds taken v c.share.ensures.leaves;
+    }
+
+pub returns-in_ok-gains-in-Ok-Ok : goal.returns-in_ok-gains-in-Ok-Ok
+returns-in_ok-gains-in-Ok-Ok g c =
+    let s = g.S.Rules.means c.args.store.now in
+    let keep = g.S.Rules.laws.keeps c.args.store.now in
+    let p = c.args.partial.now in
+    let first = c.try_true_side-first in
+    let q = first.new.side in
+    let second = c.try_side-second in
+    let r = second.new.side in
+    let v = c.share.new.partial in
+    let kept = c.in-Ok-Ok.kept in
+    let gains = c.in_ok-gains-in-Ok-Ok.gains in
+    let taken = taken_at s p q first.new.places first.result kept c.in-Ok-Ok.is-0 first.ensures.kept in
+    let adds = side_adds s keep p c.args.i true q c.requires.0 c.requires.1.1.1.1 first.ensures.leaves in
+    let same = shares s keep p q r first.new.places kept.gain kept.news c.requires.0 first.ensures.fit second.ensures.fit adds taken in
+    let each = c.in_ok-gains-in-Ok-Ok.ensures.gains in
+    let rank = ranks s keep p q r first.new.places kept.gain kept.news c.requires.0 first.ensures.fit second.ensures.fit adds taken gains.yes gains.no each.0 each.1 in
+    record {
+      value = λ go xs.
+          shared_closes s (by_gains s) p c.args.i go xs q r (ap (λ u. ended u q) (sym c.in-Ok-Ok.is-0) ∙ first.ensures.value) (ap (λ u. ended u r) (sym c.in-Ok-Ok.is-1) ∙ second.ensures.value)
+          v (c.in_ok-gains-in-Ok-Ok.ensures.value ∙ ap (close s) same) gains.yes gains.no rank;
+      fit = c.share.ensures.fit;
+      adds = shared_adds s keep p q r first.new.places kept.gain kept.news c.requires.0 first.ensures.fit second.ensures.fit adds taken v c.share.ensures.leaves;
     }

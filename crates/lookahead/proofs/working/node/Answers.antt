@@ -33,7 +33,7 @@ returns-then-settle g c =
     let after = c.if-settle.ensures.leaves in
     record {
       value =
-          node_settled s (by_gains s) c.args.cutoff.now d c.args.partial.now c.deepen.new.cutoff q (map noted (take c.in-Some.k c.look_ahead.new.notes)) c.in-Some.ensures.value
+          node_settled s (by_gains s) c.args.cutoff.now d c.args.partial.now c.deepen.new.cutoff q (map noted (take c.in-Ok.k c.look_ahead.new.notes)) c.in-Ok.ensures.value
           (c.deepen.ensures.value ∙ ap (deepened d) c.rise.ensures.value) (sym c.if-settle.ensures.value)
           ∙ ap (λ u. worked c.deepen.new.cutoff outcome.Model u) (sym after);
       fit = subst (Partial s.n) (sym after) (filled_fits s.n q c.look_ahead.ensures.fit);
@@ -56,7 +56,7 @@ returns-then-is_cut g c =
     let same = c.if-settle.ensures.leaves in
     record {
       value =
-          node_alive s (by_gains s) c.args.cutoff.now d c.args.partial.now e q (map noted (take c.in-Some.k c.look_ahead.new.notes)) false true c.in-Some.ensures.value
+          node_alive s (by_gains s) c.args.cutoff.now d c.args.partial.now e q (map noted (take c.in-Ok.k c.look_ahead.new.notes)) false true c.in-Ok.ensures.value
           (c.deepen.ensures.value ∙ ap (deepened d) c.rise.ensures.value) (sym c.if-settle.ensures.value)
           (asked_of e s.n d q u true c.look_ahead.ensures.fit.long same c.if-is_cut.ensures);
       fit = subst (Partial s.n) (sym same) c.look_ahead.ensures.fit;
@@ -72,9 +72,9 @@ choose-requires g c =
     let s = g.S.Rules.means c.args.store.now in
     let keep = g.S.Rules.laws.keeps c.args.store.now in
     let q = c.look_ahead.new.partial in
-    let k = c.in-Some.k in
+    let k = c.in-Ok.k in
     let notes = c.look_ahead.new.notes in
-    let stands = alive_means s keep (by_gains s) c.args.partial.now c.requires.0 q (map noted (take k notes)) c.in-Some.ensures.value in
+    let stands = alive_means s keep (by_gains s) c.args.partial.now c.requires.0 q (map noted (take k notes)) c.in-Ok.ensures.value in
     let each = each_of (λ (x : Scored). Literal s.n x.literal) noted (take k notes) stands.literals in
     let long : length c.settle.new.partial ≡ s.n = ap length c.if-settle.ensures.leaves ∙ c.look_ahead.ensures.fit.long in
     subst (λ j. Each (λ (x : Record). Literal (length c.settle.new.partial) x.decision) (take j notes)) (sym (whole k))
@@ -87,7 +87,7 @@ returns g c =
     let q = c.look_ahead.new.partial in
     let u = c.settle.new.partial in
     let e = c.deepen.new.cutoff in
-    let k = c.in-Some.k in
+    let k = c.in-Ok.k in
     let notes = c.look_ahead.new.notes in
     let xs = map noted (take k notes) in
     let same = c.if-settle.ensures.leaves in
@@ -96,7 +96,7 @@ returns g c =
     in
     record {
       value =
-          node_alive s (by_gains s) c.args.cutoff.now d c.args.partial.now e q xs false false c.in-Some.ensures.value
+          node_alive s (by_gains s) c.args.cutoff.now d c.args.partial.now e q xs false false c.in-Ok.ensures.value
           (c.deepen.ensures.value ∙ ap (deepened d) c.rise.ensures.value) (sym c.if-settle.ensures.value)
           (asked_of e s.n d q u false c.look_ahead.ensures.fit.long same c.if-is_cut.ensures)
           ∙ ap (λ r. record { cutoff = e; result = r }) (decided_by q (best q xs) c.choose.result (sym chosen))

@@ -17,7 +17,7 @@ returns c =
       means = λ text h. means_text h _
           (λ rs e. c.open.ensures.means rs
           (subst (λ u. Filled k.variables rs u c.used-2.result.now) (sym uc)
-          (subst (λ u. Filled k.variables rs (take k.clause_numbers cs) u) (sym uo) e)));
+          (subst (λ u. Filled k.variables rs (take k.clauses.numbers cs) u) (sym uo) e)));
       counts = λ text h. record {
         variables = f.1.1;
         clause_count = ap (λ t. length (parts t.now)) f.1.0 ∙ (ap (λ u. length (parts u)) uc ∙ clauses_counted h);

@@ -1,8 +1,6 @@
-use Rattle.reader.proofs.Fields.{skipped_comment, skipped_blank}
+use Rattle.std.proofs.Common.{◌∙◌}
+use Rattle.reader.proofs.Fields.{skipped_blank}
 use Rattle.reader.proofs.header.is_skipped.Goals as goal
 
-pub returns-then-is_comment : goal.returns-then-is_comment
-returns-then-is_comment c = skipped_comment c.args.line.now _ c.if-is_comment.ensures
-
-pub returns : goal.returns
-returns c = skipped_blank c.args.line.now _ c.if-is_comment.ensures c.run_end.ensures.end
+pub returns-else-is_comment : goal.returns-else-is_comment
+returns-else-is_comment c = c.all_blank.ensures ∙ skipped_blank c.args.line.now c.if-is_comment.ensures

@@ -1,8 +1,8 @@
-use Rattle.std.proofs.Common.{◌≡◌, length, rules}
+use Rattle.std.proofs.Common.{length, Err, ap, ◌∙◌}
 use Rattle.std.proofs.lemmas.Result.{err_from_is_err_and}
+use Rattle.rules.specs.declared.kind.Kind.TheVariants.{Clause, Odd}
 use Rattle.rules.specs.Rules.{clauses, odds}
-use Rattle.reader.specs.Reading.{parse, answer}
-use Rattle.reader.proofs.Wholes.{refused_answer, refused_table}
+use Rattle.reader.proofs.Wholes.{refused_answer, refused_table, short_answer, short_table, full_answer, clauses_fit, odds_fit, full_table}
 use Rattle.reader.proofs.Formats.{read_as}
 use Rattle.reader.proofs.reading.read.Goals as goal
 
@@ -15,9 +15,23 @@ returns-in_err-plan c =
     let y = refused_table odds (length c.args.clauses.now) (length c.args.odds.now) c.args.odds.now _ _ e in
     rw (p.1, p.2) (record { answer = a; clauses = x; odds = y; spelled = read_as c.args.text.now c.args.clauses.now c.args.odds.now _ _ _ a x y })
 
+pub returns-then-not-fit : goal.returns-then-not-fit
+returns-then-not-fit c =
+    let h = c.in_ok-plan.ensures in
+    let no = c.if-not-fit.ensures in
+    let a = ap Err c.at.ensures ∙ short_answer _ _ h _ _ no in
+    let x = short_table _ _ h _ _ no clauses c.args.clauses.now in
+    let y = short_table _ _ h _ _ no odds c.args.odds.now in
+    record { answer = a; clauses = x; odds = y; spelled = read_as c.args.text.now c.args.clauses.now c.args.odds.now _ _ _ a x y }
+
+pub fill-requires : goal.fill-requires
+fill-requires c = record { clauses = clauses_fit _ _ c.in_ok-plan.ensures _ _ c.if-not-fit.ensures; odds = odds_fit _ _ c.in_ok-plan.ensures _ _ c.if-not-fit.ensures }
+
 pub returns : goal.returns
 returns c =
-    let a : c.answer_with.result ≡ answer (length c.args.text.now) (length c.args.clauses.now) (length c.args.odds.now) (parse c.args.text.now) = search rules in
-    let x = c.fill_by.ensures.clauses in
-    let y = c.fill_by.ensures.odds in
+    let h = c.in_ok-plan.ensures in
+    let yes = c.if-not-fit.ensures in
+    let a = full_answer _ _ h _ _ yes in
+    let x = c.fill.ensures.clauses ∙ full_table _ _ h _ _ yes Clause c.args.clauses.now in
+    let y = c.fill.ensures.odds ∙ full_table _ _ h _ _ yes Odd c.args.odds.now in
     record { answer = a; clauses = x; odds = y; spelled = read_as c.args.text.now c.args.clauses.now c.args.odds.now _ _ _ a x y }

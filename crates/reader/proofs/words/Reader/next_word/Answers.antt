@@ -1,36 +1,28 @@
-use Rattle.std.proofs.Common.{◌≡◌, ◌-◌, ◌<◌, ◌∷◌, length, take, drop, sym, ◌∙◌, arith}
+use Rattle.std.proofs.Common.{◌≡◌, ◌+◌, ◌-◌, ◌<◌, ◌∷◌, length, take, drop, sym, ap, ◌∙◌, arith}
+use Rattle.std.proofs.lemmas.List.{take_rest, length-take-le}
 use Rattle.reader.specs.declared.cursor.Mode.TheVariants.{Within}
-use Rattle.reader.specs.declared.cursor.Until.TheVariants.{Blank}
-use Rattle.reader.specs.Runs.{run}
+use Rattle.reader.specs.Runs.{word_len}
 use Rattle.reader.specs.Tokens.{token, ahead}
 use Rattle.reader.proofs.Walks.{nothing_ahead, word_ahead, word_some}
 use Rattle.reader.proofs.words.Reader.next_word.Goals as goal
 
-pub returns-then-start-self : goal.returns-then-start-self
-returns-then-start-self c =
+pub returns-then-place-self-clause-word : goal.returns-then-place-self-clause-word
+returns-then-place-self-clause-word c =
     let s = c.skip_gap.new.self in
-    record {
-      text = c.skip_gap.ensures.text;
-      word = sym c.skip_gap.ensures.same ∙ nothing_ahead s.text.now s.at s.mode (omega arith);
-    }
+    sym c.skip_gap.ensures.same ∙ nothing_ahead s.text.now s.at s.mode (omega arith)
 
-pub invariant_of-self : goal.invariant_of-self
-invariant_of-self c = record { inside = c.run_end-end.ensures.within }
-
-pub returns : goal.returns
-returns c =
+pub returns-clause-word : goal.returns-clause-word
+returns-clause-word c =
     let s = c.skip_gap.new.self in
-    let k = run Blank (drop s.at s.text.now) in
+    let rest = take (length s.text.now - s.at) (drop s.at s.text.now) in
+    let from : rest ≡ drop s.at s.text.now = take_rest s.text.now s.at in
     let lt : s.at < length s.text.now = omega (arith, s.inside) in
     let is = c.skip_gap.ensures.stops lt in
-    let told = word_ahead s.text.now s.at s.mode lt is in
-    let some = word_some s.text.now s.at s.mode lt is in
-    let ends = c.run_end-end.ensures.end in
-    let size : k ≡ c.run_end-end.result - s.at = omega (arith, ends) in
-    record {
-      text = c.skip_gap.ensures.text;
-      word = (
-        sym c.skip_gap.ensures.same ∙ (told ∙ (λ i. token s.at (take (size i) (drop s.at s.text.now)) ∷ ahead (c.skip_gap.ensures.text i).now (sym ends i) Within)),
-        omega (arith, c.skip_gap.ensures.on, some, ends),
-      );
-    }
+    let size : c.word_len.result ≡ word_len (drop s.at s.text.now) = c.word_len.ensures.value ∙ ap word_len from in
+    let long : length (take c.word_len.result rest) ≡ c.word_len.result = length-take-le c.word_len.result rest c.word_len.ensures.within in
+    let on : s.at + length (take c.word_len.result rest) ≡ s.at + word_len (drop s.at s.text.now) = omega (arith, long, size) in (
+      sym c.skip_gap.ensures.same
+          ∙ (word_ahead s.text.now s.at s.mode lt is
+          ∙ (λ i. token s.at (take (sym size i) (sym from i)) ∷ ahead s.text.now (sym on i) Within)),
+      omega (arith, c.skip_gap.ensures.on, word_some s.text.now s.at s.mode lt is, on),
+    )

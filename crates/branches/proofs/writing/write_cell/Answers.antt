@@ -1,6 +1,0 @@
-use Rattle.std.proofs.Common.{sym, arith}
-use Rattle.std.proofs.lemmas.List.{set_past}
-use Rattle.branches.proofs.writing.write_cell.Goals as goal
-
-pub returns-else-i-cells : goal.returns-else-i-cells
-returns-else-i-cells c = sym (set_past c.args.cells.now c.args.i c.args.x (omega arith))
