@@ -111,17 +111,17 @@ def node(n, rules, cutoff, decisions, partial):
 
 
 def bytes_of(partial, width=7):
-    known = partial or {}
-    return '[%s]' % ', '.join({True: '1', False: '2', None: '0'}[known.get(v)] for v in range(1, width + 1))
+    return '[%s]' % ', '.join({True: '1', False: '2', None: '0'}[partial.get(v)] for v in range(1, width + 1))
+
+
+def last(partial):
+    return 'None' if partial is None else 'Some(%s)' % bytes_of(partial)
 
 
 def kept(cutoff):
     name, number = cutoff
-    if name == 'Never':
-        return '(0, 0)'
-    if name == 'Depth':
-        return '(1, %d)' % number
-    return '(%d, 0x%s)' % ({'Share': 2, 'Easing': 3}[name], struct.pack('>d', number).hex())
+    bits = '0x' + struct.pack('>d', number).hex() if name in ('Share', 'Easing') else number
+    return '(Kind::%s, %s)' % (name, bits)
 
 
 def written(cutoff):
@@ -188,7 +188,7 @@ def main():
             before = {abs(l): l > 0 for l in literals}
             outcome, after, then = node(n, rules, cutoff, decisions, before)
             print('    Row { cutoff: %s, decisions: %d, before: %s, outcome: Outcome::%s, after: %s, kept: %s },' % (
-                written(cutoff), decisions, bytes_of(before), outcome, bytes_of(after), kept(then)))
+                written(cutoff), decisions, bytes_of(before), outcome, last(after), kept(then)))
         print('];')
 
 

@@ -99,7 +99,7 @@ ready_from n len cells h (r ∷ ys) zs few f t q =
     ready_from n len cells r.height ys (r ∷ zs) few (fit_below n (take len cells) r ys f) t.1
     (omega arith, stood n len cells r ys few f, ready_lower cells h (suc r.height) zs (omega arith) q)
 
-ready : (n len : ℕ) (cells : List ℤ) (rs : List Record) → n ≤ 2048 → Fit n (take len cells) (newest_first rs) → Ready cells 0 rs
+pub ready : (n len : ℕ) (cells : List ℤ) (rs : List Record) → n ≤ 2048 → Fit n (take len cells) (newest_first rs) → Ready cells 0 rs
 ready n len cells rs few f =
     subst (Ready cells 0) (reverse-reverse rs) (ready_from n len cells (length (take len cells)) (newest_first rs) [] few f f.tall tt)
 
@@ -134,7 +134,7 @@ laid_ready k i r rs cells w q =
     let a = get_or cells i (pos 0) in
     ready_set (set cells h a) i (written k r) (suc h) rs (omega arith) (ready_set cells h a (suc h) rs (omega arith) q)
 
-undone : (k : Kind) (i lo : ℕ) (rs : List Record) (cells : List ℤ) → i ≤ lo → Ready cells lo rs → moved_back i rs (laid k i rs cells) ≡ cells
+pub undone : (k : Kind) (i lo : ℕ) (rs : List Record) (cells : List ℤ) → i ≤ lo → Ready cells lo rs → moved_back i rs (laid k i rs cells) ≡ cells
 undone k i lo [] cells w q = refl
 undone k i lo (r ∷ rs) cells w q =
     let low = q.0 in
@@ -177,7 +177,7 @@ entry_is : (k : Kind) (cells : List ℤ) (rs : List Record) → Ready cells 0 rs
 entry_is Cube cells rs q = ap cube (as_cube cells 0 rs q ∙ sym (path_from rs []))
 entry_is Learnt cells rs q = ap learnt (as_learnt cells 0 rs q ∙ ap (map neg_ℤ) (sym (path_from rs [])))
 
-laid_entry : (k : Kind) (cells : List ℤ) (rs : List Record) (d : ℕ) → d ≡ length rs → Ready cells 0 rs → entry_of k (take d (laid k 0 rs cells)) ≡ branch_entry k rs
+pub laid_entry : (k : Kind) (cells : List ℤ) (rs : List Record) (d : ℕ) → d ≡ length rs → Ready cells 0 rs → entry_of k (take d (laid k 0 rs cells)) ≡ branch_entry k rs
 laid_entry k cells rs d e q =
     let j : d ≡ 0 + length rs = omega arith in
     ap (λ u. entry_of k (take u (laid k 0 rs cells))) j ∙ ap (entry_of k) (front k 0 0 rs cells (omega arith) q) ∙ entry_is k cells rs q

@@ -1,7 +1,7 @@
 // From the trail to a partial, and a model onto the trail.
 ghost use Rattle.std.specs.Prelude.{◌≡◌, ◌≤◌, length};
 ghost use Rattle.rules.specs.Literals.{Partial};
-ghost use Rattle.stack.specs.Items.{items, size as type_size};
+ghost use Rattle.stack.specs.Items.{items, sound, size as type_size};
 ghost use Rattle.account.specs.Piles.{partial_of};
 ghost use Rattle.branches.specs.Spelled.{literals_of};
 
@@ -21,6 +21,7 @@ pub fn fill_partial(trail: &[i32], partial: &mut [u8])
 #[tactic(auto, using(crate::proofs::Models::one_more))]
 pub fn lay_model(trail: &mut Stack<i32>, bytes: &[u8])
     ensures items { length bytes.now ≤ type_size trail.old → length bytes.now ≤ 2048 → items trail.new ≡ literals_of 0 bytes.now }
+    ensures whole { sound trail.new }
     ensures places { type_size trail.new ≡ type_size trail.old }
 {
     trail.truncate(0);

@@ -7,6 +7,6 @@ mod sides;
 mod writing;
 
 pub use filling::{fill_partial, lay_model};
-pub use going::{Pile, unsearched};
+pub use going::{Pile, push_decision, retreat, unsearched};
 pub use rules::free_count;
 pub use writing::put_branch;

@@ -1,5 +1,5 @@
--- The cutoff: which ones are allowed, how easing moves one, when a branch is cut, and how one is kept as its kind and a number.
-use Rattle.std.specs.Prelude.{ℕ, ◌*◌, Bool, true, false, cond, pos, Ok, Err, Result, from_bits, nat_le, to_bits, Float}
+-- The cutoff: which ones are allowed, how easing moves one, when a branch is cut, and how one is kept as two numbers.
+use Rattle.std.specs.Prelude.{ℕ, ◌*◌, Bool, true, false, cond, pos, Some, None, Ok, Err, Option, Result, ◌==◌, from_bits, nat_le, to_bits, Float}
 use Rattle.std.specs.Float.{binary64}
 use Rattle.std.specs.Float.Ieee.{mul, lt, of_int}
 use Rattle.cutoff.specs.declared.kinds.Cutoff.{Cutoff}
@@ -42,13 +42,30 @@ cuts_at (Depth d) n decisions set = nat_le d decisions
 cuts_at (Share θ) n decisions set = exceeds n θ (decisions * set)
 cuts_at (Easing θ) n decisions set = exceeds n θ (decisions * set)
 
--- as a kind and a number: with it nothing (0), the depth, or the threshold's bits
+-- as two numbers: the first is the kind's
+abbrev pub kind_number : Kind → ℕ
+kind_number kind.Never = 0
+kind_number kind.Depth = 1
+kind_number kind.Share = 2
+kind_number kind.Easing = 3
+
+-- the kind that a number stands for
+abbrev pub kind_at : ℕ → Option Kind
+kind_at n = cond (n == 0) (Some kind.Never) (cond (n == 1) (Some kind.Depth) (cond (n == 2) (Some kind.Share) (cond (n == 3) (Some kind.Easing) None)))
+
 abbrev pub kind_of : Cutoff → Kind
 kind_of Never = kind.Never
 kind_of (Depth d) = kind.Depth
 kind_of (Share θ) = kind.Share
 kind_of (Easing θ) = kind.Easing
 
+abbrev pub first_of : Cutoff → ℕ
+first_of Never = 0
+first_of (Depth d) = 1
+first_of (Share θ) = 2
+first_of (Easing θ) = 3
+
+-- and the second is nothing (0), the depth, or the threshold's bits
 abbrev pub bits_of : Cutoff → ℕ
 bits_of Never = 0
 bits_of (Depth d) = d

@@ -1,16 +1,41 @@
-// A cutoff as its kind and a number, for whoever keeps one beside lent memory.
-ghost use Rattle.std.specs.Prelude.{◌≡◌, true};
-ghost use Rattle.cutoff.specs.Cutoffs.{allowed, kind_of, bits_of, cutoff_of};
+// A cutoff as two numbers, for whoever keeps one beside lent memory.
+ghost use Rattle.std.specs.Prelude.{◌≡◌, ◌<◌, true, Some, MatchOption};
+ghost use Rattle.cutoff.specs.Cutoffs.{allowed, kind_of, first_of, bits_of, cutoff_of, kind_number, kind_at};
 
 use crate::kinds::Cutoff;
 use crate::theta::{bits, from_bits};
 
 #[derive(Clone, Copy, PartialEq, Eq, Debug)]
 pub enum Kind {
-    Never,
-    Depth,
-    Share,
-    Easing,
+    Never = 0,
+    Depth = 1,
+    Share = 2,
+    Easing = 3,
+}
+
+impl Kind {
+    // The number that stands for a kind where a cutoff is kept as two.
+    pub fn number(self) -> u8
+        ensures value { result ≡ kind_number self }
+        ensures same { kind_at result ≡ Some self }
+    {
+        self as u8
+    }
+
+    // The kind that a number stands for; none above 3.
+    // Stays: no `TryFrom`, since an error would have nothing to say.
+    pub fn from_number(number: u8) -> Option<Kind>
+        ensures value { result ≡ kind_at number }
+        ensures same { MatchOption result (3 < number) (λ kind. kind_number kind ≡ number) }
+    {
+        match number {
+            0 => Some(Kind::Never),
+            1 => Some(Kind::Depth),
+            2 => Some(Kind::Share),
+            3 => Some(Kind::Easing),
+            _ => None,
+        }
+    }
 }
 
 // The kind, and the depth or the threshold's bits; 0 where there is neither.
@@ -30,6 +55,7 @@ impl Kept {
     pub fn keep(cutoff: Cutoff) -> Kept
         requires { allowed cutoff ≡ true }
         ensures kind { result.kind ≡ kind_of cutoff }
+        ensures first { kind_number result.kind ≡ first_of cutoff }
         ensures number { result.bits ≡ bits_of cutoff }
         ensures same { kept_cutoff result ≡ cutoff }
     {

@@ -1,10 +1,10 @@
 // A cutoff kept beside lent memory, as a splitter keeps it.
-ghost use Rattle.std.specs.Prelude.{◌≡◌};
+ghost use Rattle.std.specs.Prelude.{◌≡◌, IsSomeAnd};
 ghost use Rattle.cutoff.specs.Theta.{grow, shrink};
 ghost use Rattle.cutoff.specs.Cutoffs.{eased, cuts_at};
 ghost use Rattle.cutoff.specs.Keeping.{kept_cutoff};
 
-use cutoff::{Cutoff, Kept};
+use cutoff::{Cutoff, Kept, Kind};
 
 #[derive(Drop)]
 pub struct Holder<'a> {
@@ -30,6 +30,15 @@ impl Holder<'_> {
     }
 }
 
+// What is kept, written as two bare numbers and made from them again.
+fn again(kept: Kept) -> Option<Kept>
+    ensures { IsSomeAnd result (λ same. kept_cutoff same ≡ kept_cutoff kept) }
+{
+    let (first, bits) = (kept.kind.number(), kept.bits);
+    let kind = Kind::from_number(first)?;
+    Some(Kept { kind, bits })
+}
+
 #[test]
 fn a_node_moves_the_kept_threshold(rt: HostRuntime) {
     let mut memory = [0i32; 4];
@@ -43,4 +52,13 @@ fn a_node_moves_the_kept_threshold(rt: HostRuntime) {
     assert!(rt; holder.trail.len() == 4);
     assert!(rt; holder.cutoff.bits == 0x3ffd666666666666);
     assert!(rt; holder.cuts(2, 2, 2) && !holder.cuts(2, 1, 2));
+}
+
+#[test]
+fn two_numbers_come_back(rt: HostRuntime) {
+    let cutoff = Cutoff::Share(0.5);
+    assert!(rt; cutoff.check().is_ok());
+    let kept = Kept::keep(cutoff);
+    assert!(rt; kept.kind.number() == 2);
+    assert!(rt; again(kept) == Some(kept));
 }

@@ -9,6 +9,23 @@ fn kept(cutoff: Cutoff) -> Option<(Kind, u64)> {
     (first == again).then_some((first.kind, first.bits))
 }
 
+// A kind, and the number that stands for it.
+const KINDS: [(Kind, u8); 4] = [
+    (Kind::Never, 0),
+    (Kind::Depth, 1),
+    (Kind::Share, 2),
+    (Kind::Easing, 3),
+];
+
+#[test]
+fn kinds_have_these_numbers(rt: HostRuntime) {
+    for &(kind, number) in &KINDS {
+        assert!(rt; kind.number() == number);
+        assert!(rt; Kind::from_number(number) == Some(kind));
+    }
+    assert!(rt; Kind::from_number(4).is_none());
+}
+
 // How a threshold moves under easing.
 #[derive(Clone, Copy)]
 enum Move {

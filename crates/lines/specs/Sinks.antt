@@ -21,7 +21,7 @@ Takes took room s ws t r = MatchResult r (λ _. took s ws t) (λ _. room s < len
 
 pub stack_laws : SinkLaws {S = Stack ℕ} Appended (λ s. length (spares s))
 stack_laws = record {
-  took_nothing = λ s. record { room = omega arith; items = sym (append-nil (items s)); spares = refl; same = refl };
+  took_nothing = λ s. record { room = omega arith; len = omega arith; items = sym (append-nil (items s)); spares = refl; same = refl };
   took_more = λ s t u ws vs. appended_more s t u ws vs;
   room_left = λ s t ws a. let r = a.room in let e = ap length a.spares in omega (arith, e, length-drop (length ws) (spares s));
 }

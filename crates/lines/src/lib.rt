@@ -2,6 +2,8 @@
 #![tactic(auto)]
 
 mod sinks;
-mod write;
+pub mod widths;
+pub mod write;
 
-pub use write::Line;
+pub use widths::line_fits;
+pub use write::{Line, put_line};

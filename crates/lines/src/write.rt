@@ -1,10 +1,10 @@
 // A line is written once, for every sink: onto a stack, or to see whether it fits.
-ghost use Rattle.std.specs.Prelude.{◌≡◌, ◌≤◌, List, length, OnOk, nat_le};
+ghost use Rattle.std.specs.Prelude.{◌≡◌, ◌+◌, ◌≤◌, List, length, OnOk, nat_le};
 ghost use Rattle.std.specs.Fmt.{signed_decimal};
 ghost use Rattle.std.specs.List.{AllByRecursion};
 ghost use Rattle.stack.specs.Items.{spares};
-ghost use Rattle.outlet.specs.Memory.{Appended};
-ghost use Rattle.lines.specs.Lines.{spaced, parted, line_of, letter, Narrow};
+ghost use Rattle.outlet.specs.Memory.{Appended, laid};
+ghost use Rattle.lines.specs.Lines.{spaced, parted, line, line_of, letter, Narrow};
 ghost use Rattle.lines.specs.Sinks.{Takes};
 
 use crate::sinks::{Room, Sink};
@@ -87,4 +87,22 @@ impl<'a> Line<'a> {
     {
         let _ = self.write(out);
     }
+}
+
+// Writes a line into the bytes from a place on, and answers the place behind it.
+pub fn put_line(bytes: &mut [u8], at: usize, kind: Kind, n: u64, lits: &[i32]) -> usize
+    requires { at + length (line kind n lits.now) ≤ length bytes.old }
+    ensures end { result ≡ at + length (line kind n lits.now) }
+    ensures memory { bytes.new ≡ laid bytes.old at (line kind n lits.now) }
+    ensures narrow { AllByRecursion Narrow lits.now }
+{
+    let mut text = Stack::new(bytes);
+    text.keep_spares(at);
+    let line = Line {
+        kind,
+        number: n,
+        lits,
+    };
+    line.put(&mut text);
+    text.len()
 }

@@ -12,4 +12,5 @@ pub mod Sides
 pub mod Turns
 pub mod Passing
 pub mod Asked
+pub mod Counts
 pub mod Finished

@@ -8,6 +8,9 @@ use Rattle.closing.specs.declared.ending.Clash.{Clash}
 use Rattle.stack.specs.declared.kinds.Record.{Record}
 use Rattle.cutoff.specs.declared.kinds.Cutoff.{Cutoff}
 use Rattle.lookahead.specs.declared.kinds.Gains.{Gains}
+use Rattle.lookahead.specs.declared.trials.Kept.{Kept}
+use Rattle.lookahead.specs.declared.trials.Left.{Left}
+use Rattle.lookahead.specs.declared.trials.Left.TheVariants as side
 use Rattle.lookahead.specs.declared.kinds.Outcome.{Outcome}
 use Rattle.lookahead.specs.declared.kinds.Outcome.TheVariants as outcome
 use Rattle.lookahead.specs.Trials.{Scored, Pass, dead, alive, scored, rank_of, literal_of}
@@ -44,6 +47,18 @@ set_all p (l ∷ ls) = set_all (put p l) ls
 abbrev pub held : List ℕ → List ℤ → List ℤ
 held r [] = []
 held r (l ∷ ls) = cond (is_true r l) (l ∷ held r ls) (held r ls)
+
+-- the sides that are left, by how the true side and the false side ended
+abbrev pub sides_left : Result Kept Clash → Result (Unit {0}) Clash → Result Left Clash
+sides_left (Err e) (Err f) = Err f
+sides_left (Err e) (Ok u) = Ok side.False
+sides_left (Ok k) (Err e) = Ok (side.True k)
+sides_left (Ok k) (Ok u) = Ok (side.Both k)
+
+-- a turn in which both sides closed, by how closing what they share ended
+abbrev pub ranked_by : Result (Unit {0}) Clash → Gains → Result (Option Gains) Clash
+ranked_by (Err e) g = Err e
+ranked_by (Ok u) g = Ok (Some g)
 
 -- What is kept of the true side that left q, where it closed: its gain, and its new literals at the start of the places.
 pub record Taken (s : Store) (p q : List ℕ) (places : List ℤ) (gain k : ℕ) : Type 0 where

@@ -5,7 +5,7 @@ ghost use Rattle.stack.specs.declared.kinds.Record.{Record as TheRecord};
 ghost use Rattle.lookahead.specs.Nodes.{best, better, filled, set_in};
 ghost use Rattle.lookahead.specs.Answers.{noted, best_note, literal_in, model_byte};
 
-use rules::{byte_of, free_count};
+use rules::byte_of;
 use stack::Record;
 
 // The better of the best so far and another score. Variables come in rising order, so that at a tie the earlier one stays.
@@ -33,10 +33,11 @@ pub fn choose(partial: &[u8], notes: &[Record]) -> Option<i32>
 }
 
 // How many variables are set.
+#[tactic(auto, using(crate::proofs::Counts::set_counts))]
 pub fn set_count(partial: &[u8]) -> usize
     ensures { result ≡ set_in partial.now }
 {
-    partial.len() - free_count(partial)
+    partial.iter().filter(|byte| **byte != 0).count()
 }
 
 // The byte of a variable in the model.

@@ -1,6 +1,6 @@
 // Literals on unused trail places: what a side has set, and setting it again.
-ghost use Rattle.std.specs.Prelude.{◌≡◌, ◌<◌, ◌≤◌, length, take};
-ghost use Rattle.rules.specs.Literals.{Literal, Each, free};
+ghost use Rattle.std.specs.Prelude.{◌≡◌, ◌<◌, ◌≤◌, length, take, if◌then◌else◌};
+ghost use Rattle.rules.specs.Literals.{Literal, Each, free, is_true, put};
 ghost use Rattle.lookahead.specs.Trials.{literal_of};
 ghost use Rattle.lookahead.specs.Answers.{new_at, news, set_all, held};
 
@@ -57,14 +57,22 @@ pub fn adopt(partial: &mut [u8], literals: &[i32])
     }
 }
 
+// Sets a literal that is true on the other side too.
+fn adopt_if_held(partial: &mut [u8], literal: i32, other: &[u8])
+    requires { (Literal (length partial.old) literal) × (length other.now ≡ length partial.old) }
+    ensures { partial.new ≡ (if is_true other.now literal then put partial.old literal else partial.old) }
+{
+    if is_true(other, literal) {
+        assign(partial, literal);
+    }
+}
+
 // Sets those of a side's new literals that are true on the other side too.
 pub fn adopt_held(partial: &mut [u8], news: &[i32], other: &[u8])
     requires { (Each (Literal (length partial.old)) news.now) × (length other.now ≡ length partial.old) }
     ensures { partial.new ≡ set_all partial.old (held other.now news.now) }
 {
     for l in news {
-        if is_true(other, *l) {
-            assign(partial, *l);
-        }
+        adopt_if_held(partial, *l, other);
     }
 }

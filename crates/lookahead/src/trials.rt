@@ -2,9 +2,8 @@
 ghost use Rattle.std.specs.Prelude.{◌≡◌, ℕ, ◌<◌, ◌≤◌, List, length, slice_index, true, IfOk};
 ghost use Rattle.rules.specs.Literals.{Partial, Extends, Literal, Each, free, put};
 ghost use Rattle.closing.specs.Closing.{close as closing, left as leaving, ended};
-ghost use Rattle.stores.specs.Walks.{gained};
-ghost use Rattle.lookahead.specs.Trials.{Scored, Pass, by_gains, turn_of, literal_of, most_gain};
-ghost use Rattle.lookahead.specs.Answers.{Taken, goes_on, set_all, held};
+ghost use Rattle.lookahead.specs.Trials.{Scored, Pass, by_gains, turn_of, literal_of};
+ghost use Rattle.lookahead.specs.Answers.{Taken, sides_left, ranked_by, goes_on, set_all, held};
 
 use crate::kinds::Gains;
 use crate::literals::{adopt, adopt_held, literal_of, write_news};
@@ -57,26 +56,47 @@ fn try_true_side<S: Rules>(
     Ok(Kept { gain, news })
 }
 
-// What both sides have set, set in the partial, which is then closed; the gains of both sides.
-fn share<S: Rules>(
-    store: &S,
-    partial: &mut [u8],
-    side: &[u8],
-    news: &[i32],
-    yes: u32,
-) -> Result<Gains, Clash>
+// Which sides of a variable are left.
+#[derive(Clone, Copy)]
+enum Left {
+    False,
+    True(Kept),
+    Both(Kept),
+}
+
+// Which sides are left, by how the true side and the false side ended; a clash where none is.
+fn sides_left(first: Result<Kept, Clash>, second: Result<(), Clash>) -> Result<Left, Clash>
+    ensures { result ≡ sides_left first second }
+{
+    match (first, second) {
+        (Err(_), Err(clash)) => Err(clash),
+        (Err(_), Ok(())) => Ok(Left::False),
+        (Ok(kept), Err(_)) => Ok(Left::True(kept)),
+        (Ok(kept), Ok(())) => Ok(Left::Both(kept)),
+    }
+}
+
+// What both sides have set, set in the partial, which is then closed.
+#[tactic(auto, using(crate::proofs::Turns::set_all_fits))]
+fn share<S: Rules>(store: &S, partial: &mut [u8], side: &[u8], news: &[i32]) -> Result<(), Clash>
     requires sides { (Partial (S.Rules.means store.now).n partial.old) × (Partial (S.Rules.means store.now).n side.now) }
     requires news { Each (Literal (length partial.old)) news.now }
-    requires low { yes ≤ most_gain }
     ensures value { ended result partial.new ≡ closing (S.Rules.means store.now) (set_all partial.old (held side.now news.now)) }
     ensures leaves { partial.new ≡ leaving (S.Rules.means store.now) (set_all partial.old (held side.now news.now)) }
     ensures fit { Partial (S.Rules.means store.now).n partial.new }
-    ensures gains { IfOk result (λ g. (g.yes ≡ yes) × (g.no ≡ gained (S.Rules.means store.now) partial.old side.now)) }
 {
-    let no = store.gain(partial, side);
     adopt_held(partial, news, side);
-    close(store, partial)?;
-    Ok(Gains { yes, no })
+    close(store, partial)
+}
+
+// A turn in which both sides closed, by how closing what they share ended.
+fn ranked(shared: Result<(), Clash>, gains: Gains) -> Result<Option<Gains>, Clash>
+    ensures { result ≡ ranked_by shared gains }
+{
+    match shared {
+        Err(clash) => Err(clash),
+        Ok(()) => Ok(Some(gains)),
+    }
 }
 
 // The turn of a free variable: a clash where both sides clash, or what they share does. Its gains where neither clashes;
@@ -96,20 +116,22 @@ pub fn trial<S: Rules>(
 {
     let first = try_true_side(store, partial, side, places, i);
     let second = try_side(store, partial, side, i, false);
-    match (first, second) {
-        (Err(_), Err(clash)) => Err(clash),
-        (Err(_), Ok(())) => {
+    match sides_left(first, second)? {
+        Left::False => {
             partial.copy_from_slice(side);
             Ok(None)
         }
-        (Ok(kept), Err(_)) => {
+        Left::True(kept) => {
             adopt(partial, &places[..kept.news]);
             Ok(None)
         }
-        (Ok(kept), Ok(())) => {
-            let news = &places[..kept.news];
-            let gains = share(store, partial, side, news, kept.gain)?;
-            Ok(Some(gains))
+        Left::Both(kept) => {
+            let gains = Gains {
+                yes: kept.gain,
+                no: store.gain(partial, side),
+            };
+            let shared = share(store, partial, side, &places[..kept.news]);
+            ranked(shared, gains)
         }
     }
 }

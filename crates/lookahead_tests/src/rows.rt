@@ -78,9 +78,12 @@ pub fn hold_row<S: Rules>(rt: &impl Abort, store: &S, row: &Row) -> Result<(), F
         Some(row.outcome)
     );
     assert_eq!(rt; kept(cutoff), Some(row.kept));
-    if let Some(after) = row.after {
-        assert_eq!(rt; bytes, after);
-    }
+    let told = if row.outcome == Outcome::Refuted {
+        None
+    } else {
+        Some(bytes)
+    };
+    assert_eq!(rt; told, row.after);
     Ok(())
 }
 

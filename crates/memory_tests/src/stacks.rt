@@ -64,3 +64,24 @@ fn unused_records_are_scratch(rt: HostRuntime) {
         ] == [Some(scored), None, Some(decided), None]
     );
 }
+
+// Puts other memory under a stack.
+fn put_under<'a>(stack: &mut Stack<'a, i32>, cells: &'a mut [i32]) {
+    stack.cells = cells;
+}
+
+#[test]
+fn other_memory_under_a_stack(rt: HostRuntime) {
+    let mut cells = [0i32; 3];
+    let mut fewer = [7i32; 1];
+    let mut stack = Stack::new(&mut cells);
+    for number in [1, 2, 3] {
+        stack.put(number);
+    }
+    put_under(&mut stack, &mut fewer);
+    assert!(rt; stack.len() == 3 && stack.as_slice() == [7].as_slice());
+    assert!(rt; stack.push(4) == Err(4) && stack.pop() == None);
+    assert!(rt; stack.spare_len() == 0 && stack.get(1) == None);
+    stack.truncate(1);
+    assert!(rt; stack.pop() == Some(7) && stack.as_slice().is_empty());
+}

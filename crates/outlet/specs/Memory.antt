@@ -5,9 +5,14 @@ use Rattle.std.proofs.lemmas.List.{drop-drop, take-take}
 use Rattle.stack.specs.declared.Stack.{Stack}
 use Rattle.stack.specs.Items.{items, spares}
 
+-- the memory xs with ws written from a place on
+abbrev pub laid : {X : Type 0} → List X → ℕ → List X → List X
+laid xs at ws = take at xs ++ (ws ++ drop (at + length ws) xs)
+
 -- t is s with ws behind its content, in the same memory; the other places are as they were
 pub record Appended {T : Type 0} (s : Stack T) (ws : List T) (t : Stack T) : Type 0 where
   pub room : length ws ≤ length (spares s)
+  pub len : t.len ≡ s.len + length ws
   pub items : items t ≡ items s ++ ws
   pub spares : spares t ≡ drop (length ws) (spares s)
   pub same : t.cells.ghost_name ≡ s.cells.ghost_name

@@ -5,8 +5,8 @@ ghost use Rattle.std.specs.Prelude.{◌≡◌, Bool, true, false, List, [], ◌�
 ghost use Rattle.outlet.specs.declared.kinds.Kind.{Kind};
 ghost use Rattle.outlet.specs.Entries.{Entry, entry_of, put_reply, put_after, OutletLaws};
 
-mod kinds;
-mod numbers;
+pub mod kinds;
+pub mod numbers;
 
 pub use kinds::{Kind, Refusal};
 pub use numbers::NumberOutlet;
@@ -18,9 +18,6 @@ pub trait Outlet {
     // Whether an entry fits after these; no put changes that.
     ghost fitting: { Self → List Entry → Entry → Bool };
 
-    // The same by what is left of its memory.
-    ghost has_room: { Self → Kind → List ℤ → Bool };
-
     // What is the same of an outlet's memory before and after a put.
     ghost keeps: { Self → Self → Type 0 };
 
@@ -28,6 +25,31 @@ pub trait Outlet {
     ghost laws: { OutletLaws means keeps };
 
     fn fits(&self, kind: Kind, lits: &[i32]) -> bool
+        ensures { (es : List Entry) → means self.now es → result ≡ fitting self.now es (entry_of kind lits.now) };
+
+    fn put(&mut self, kind: Kind, lits: &[i32]) -> Result<(), Refusal>
+        ensures value { (es : List Entry) → means self.old es → result ≡ put_reply (fitting self.old es (entry_of kind lits.now)) }
+        ensures entries { (es : List Entry) → means self.old es → means self.new (put_after (fitting self.old es (entry_of kind lits.now)) es (entry_of kind lits.now)) }
+        ensures fitting { fitting self.new ≡ fitting self.old }
+        ensures kept { keeps self.old self.new }
+        ensures refused { is_ok result ≡ false → self.new ≡ self.old };
+}
+
+// The parts of an outlet's put: whether an entry has room, and how one that has is written. What they mean is an outlet's
+// meaning. No outlet is asked for here, since the put of one is made of these.
+pub trait Append {
+    ghost means: { Self → List Entry → Type 0 };
+
+    ghost fitting: { Self → List Entry → Entry → Bool };
+
+    // The same by what is left of its memory.
+    ghost has_room: { Self → Kind → List ℤ → Bool };
+
+    ghost keeps: { Self → Self → Type 0 };
+
+    ghost laws: { OutletLaws means keeps };
+
+    fn has_room(&self, kind: Kind, lits: &[i32]) -> bool
         ensures room { result ≡ has_room self.now kind lits.now }
         ensures means { (es : List Entry) → means self.now es → result ≡ fitting self.now es (entry_of kind lits.now) };
 
@@ -37,18 +59,19 @@ pub trait Outlet {
         ensures entries { (es : List Entry) → means self.old es → means self.new (es ++ entry_of kind lits.now ∷ []) }
         ensures fitting { fitting self.new ≡ fitting self.old }
         ensures kept { keeps self.old self.new };
+}
 
-    fn put(&mut self, kind: Kind, lits: &[i32]) -> Result<(), Refusal>
-        ensures value { (es : List Entry) → means self.old es → result ≡ put_reply (fitting self.old es (entry_of kind lits.now)) }
-        ensures entries { (es : List Entry) → means self.old es → means self.new (put_after (fitting self.old es (entry_of kind lits.now)) es (entry_of kind lits.now)) }
-        ensures fitting { fitting self.new ≡ fitting self.old }
-        ensures kept { keeps self.old self.new }
-        ensures refused { is_ok result ≡ false → self.new ≡ self.old }
-    {
-        if !self.fits(kind, lits) {
-            return Err(Refusal::NoRoom);
-        }
-        self.append(kind, lits);
-        Ok(())
+// Writes an entry if it fits; the put of an outlet that is made of these parts.
+pub fn put_if_room<A: Append>(out: &mut A, kind: Kind, lits: &[i32]) -> Result<(), Refusal>
+    ensures value { (es : List Entry) → A.means out.old es → result ≡ put_reply (A.fitting out.old es (entry_of kind lits.now)) }
+    ensures entries { (es : List Entry) → A.means out.old es → A.means out.new (put_after (A.fitting out.old es (entry_of kind lits.now)) es (entry_of kind lits.now)) }
+    ensures fitting { A.fitting out.new ≡ A.fitting out.old }
+    ensures kept { A.keeps out.old out.new }
+    ensures refused { is_ok result ≡ false → out.new ≡ out.old }
+{
+    if !out.has_room(kind, lits) {
+        return Err(Refusal::NoRoom);
     }
+    out.append(kind, lits);
+    Ok(())
 }

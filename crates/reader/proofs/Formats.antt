@@ -1,13 +1,19 @@
 -- A call of `read` in the words of the format.
-use Rattle.std.proofs.Common.{◌≡◌, ℕ, Bool, true, false, cond, List, length, ℤ, Ok, Err, Result, sym, refl, ap, ◌∙◌, subst}
+use Rattle.std.proofs.Common.{◌≡◌, ℕ, Bool, true, false, cond, ◌&&◌, leb, List, length, ℤ, Ok, Err, Result, sym, refl, ap, ◌∙◌, subst}
 use Rattle.rules.specs.declared.fault.Fault.{Fault}
 use Rattle.rules.specs.declared.fault.Reason.TheVariants.{Short}
+use Rattle.rules.specs.declared.kind.Kind.TheVariants.{Clause, Odd}
 use Rattle.rules.specs.Rules.{clauses, odds, numbers}
 use Rattle.reader.specs.declared.counts.Counts.{Counts}
+use Rattle.reader.specs.declared.parts.Plan.{Plan}
 use Rattle.rules.specs.Faults.{faulty}
 use Rattle.reader.specs.Reading.{Question, parse, roomy, counts_of, answer, laid, filled}
-use Rattle.reader.specs.Theorem.{ReadAs}
+use Rattle.reader.specs.Theorem.{Accepted, ReadAs}
+use Rattle.reader.specs.Left.{left}
+use Rattle.reader.specs.Turns.{Planned}
+use Rattle.reader.specs.Filling.{sent_by}
 use Rattle.reader.proofs.Spelled.{reading_right}
+use Rattle.reader.proofs.Wholes.{full_answer, full_table}
 
 module _ (text : List ℕ) (cs os : List ℤ) where
   -- by what the text parses to, and whether the tables have room
@@ -36,3 +42,9 @@ module _ (text : List ℕ) (cs os : List ℤ) where
       subst (λ x. ReadAs text cs cs' os os' x) (sym a)
       (subst (λ x. ReadAs text cs x os os' (answer (length text) (length cs) (length os) (parse text))) (sym c)
       (subst (λ x. ReadAs text cs (filled clauses (length cs) (length os) cs (parse text)) os x (answer (length text) (length cs) (length os) (parse text))) (sym o) (by (parse text) refl)))
+
+-- where both tables have room, by what was counted and what was written
+pub accepted : (text : List ℕ) (p : Plan) (h : Planned text p) (cs os cs' os' : List ℤ) → true ≡ (leb p.counts.clauses.numbers (length cs) && leb p.counts.odds.numbers (length os)) → cs' ≡ laid (sent_by Clause Clause (left p.ahead)) cs → os' ≡ laid (sent_by Odd Clause (left p.ahead)) os → Accepted text cs cs' os os' p.counts
+accepted text p h cs os cs' os' fits c o =
+    read_as text cs os cs' os' (Ok p.counts) (full_answer text p h (length cs) (length os) fits) (c ∙ full_table text p h (length cs) (length os) fits Clause cs)
+    (o ∙ full_table text p h (length cs) (length os) fits Odd os)

@@ -11,6 +11,7 @@ use rules::{Fault, Reason};
 // Reads a text. Where it is accepted, each table holds its rules from its start, and what lies beyond is as before;
 // where it is refused, both tables are as before.
 // Stays: a struct of two lent tables would be made for this one call, and be no shorter here.
+#[tactic(auto, using(crate::proofs::Wholes::full_answer, crate::proofs::Formats::accepted))]
 pub fn read(text: &[u8], clauses: &mut [i32], odds: &mut [i32]) -> Result<Counts, Fault>
     ensures answer { result ≡ answer (length text.now) (length clauses.old) (length odds.old) (parse text.now) }
     ensures clauses { clauses.new ≡ filled clause_rules (length clauses.old) (length odds.old) clauses.old (parse text.now) }

@@ -17,6 +17,7 @@ pub fn side_of(literal: i32) -> u8
 }
 
 // The negation; the lowest number has none and stays.
+#[tactic(auto, using(std::proofs::lemmas::Int::wraps))]
 pub fn opposite(literal: i32) -> i32
     ensures value { result ≡ opposite literal }
     ensures negation { unsigned_abs literal ≤ 2147483647 → result ≡ neg_ℤ literal }

@@ -1,5 +1,5 @@
 -- What a stack over lent memory holds.
-use Rattle.std.specs.Prelude.{ℕ, Bool, cond, List, [], ◌∷◌, ◌++◌, length, take, drop, Ok, Err, Result, nat_lt}
+use Rattle.std.specs.Prelude.{ℕ, ◌≤◌, Bool, cond, List, [], ◌∷◌, ◌++◌, length, take, drop, Ok, Err, Result, nat_lt}
 use Rattle.stack.specs.declared.kinds.Refusal.{Refusal}
 use Rattle.stack.specs.declared.kinds.Refusal.TheVariants.{Short}
 use Rattle.stack.specs.declared.Stack.{Stack}
@@ -15,6 +15,10 @@ spares s = drop s.len s.cells.now
 -- how many places were lent
 abbrev pub size : {T : Type 0} → Stack T → ℕ
 size s = length s.cells.now
+
+-- the content lies within the memory; so it is from the start on, and every call keeps it
+abbrev pub sound : {T : Type 0} → Stack T → Type 0
+sound s = s.len ≤ size s
 
 -- a place is left
 abbrev pub has_room : {T : Type 0} → Stack T → Bool

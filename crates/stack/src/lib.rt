@@ -1,8 +1,6 @@
 //! A stack over lent memory, for elements of any kind that is copied.
 #![tactic(auto)]
 
-ghost use Rattle.std.specs.Prelude.{◌≤◌, length};
-
 pub mod kinds;
 
 pub use kinds::{Record, Refusal};
@@ -11,17 +9,18 @@ pub use kinds::{Record, Refusal};
 // writes behind the content; the length changes only here.
 // Stays: a slice and a length, since the memory is the caller's. A Model is no plainer: callers lend `cells`, and clauses say
 // which reference it is, so that its value would be the fields once more.
+// Stays: that the content lies within the memory is the premise `sound` and no ghost field, since a caller may put other
+// memory in the place of `cells`; the calls then go by what is left of the content.
 #[derive(Drop)]
 pub struct Stack<'a, T> {
     pub cells: &'a mut [T],
     len: usize,
-    pub ghost within: { len ≤ length cells.now },
 }
 
 impl<'a, T: Copy> Stack<'a, T> {
-    ghost use Rattle.std.specs.Prelude.{◌≡◌, ◌+◌, ◌<◌, min, [], ◌∷◌, ◌++◌, take, drop, if◌then◌else◌, MatchOption, nat_le, slice_set};
+    ghost use Rattle.std.specs.Prelude.{◌≡◌, ◌+◌, ◌<◌, ◌≤◌, min, length, [], ◌∷◌, ◌++◌, take, drop, if◌then◌else◌, MatchOption, nat_le, slice_set};
     ghost use Rattle.std.specs.List.{slice_get};
-    ghost use Rattle.stack.specs.Items.{items, spares, size, has_room, push_reply, pushed, check_reply};
+    ghost use Rattle.stack.specs.Items.{items, spares, size, sound, has_room, push_reply, pushed, check_reply};
 
     // The check that may refuse: whether the memory has so many places.
     pub fn check(cells: &[T], places: usize) -> Result<(), Refusal>
@@ -37,6 +36,7 @@ impl<'a, T: Copy> Stack<'a, T> {
     pub fn new(cells: &'a mut [T]) -> Stack<'a, T>
         ensures empty { result.len ≡ 0 }
         ensures items { items result ≡ [] }
+        ensures whole { sound result }
         ensures memory { result.cells.now ≡ cells.old }
         ensures same { result.cells.ghost_name ≡ cells.entry.ghost_name }
     {
@@ -45,26 +45,28 @@ impl<'a, T: Copy> Stack<'a, T> {
 
     pub fn len(&self) -> usize
         ensures value { result ≡ self.now.len }
-        ensures items { result ≡ length (items self.now) }
+        ensures items { sound self.now → result ≡ length (items self.now) }
     {
-        self.len // of the content, not of the memory
+        self.len // every call keeps it within the memory
     }
 
+    #[tactic(auto, using(crate::proofs::Places::places))]
     pub fn as_slice(&self) -> &[T]
         ensures { result.now ≡ items self.now }
     {
-        &self.cells[..self.len]
+        &self.cells[..self.len.min(self.cells.len())]
     }
 
     // A full stack hands the element back.
     pub fn push(&mut self, x: T) -> Result<(), T>
         ensures value { result ≡ push_reply (has_room self.old) x }
         ensures items { items self.new ≡ pushed (has_room self.old) (items self.old) x }
+        ensures whole { sound self.old → sound self.new }
         ensures len { self.new.len ≡ (if has_room self.old then self.old.len + 1 else self.old.len) }
         ensures memory { self.new.cells.now ≡ slice_set self.old.cells.now self.old.len x }
         ensures same { self.new.cells.ghost_name ≡ self.old.cells.ghost_name }
     {
-        if self.len == self.cells.len() {
+        if self.len >= self.cells.len() {
             return Err(x);
         }
         self.cells[self.len] = x;
@@ -77,6 +79,7 @@ impl<'a, T: Copy> Stack<'a, T> {
     pub fn put(&mut self, x: T)
         ensures room { self.old.len < size self.old → (items self.new ≡ items self.old ++ x ∷ []) × (self.new.len ≡ self.old.len + 1) }
         ensures full { size self.old ≤ self.old.len → self.new.len ≡ self.old.len }
+        ensures whole { sound self.old → sound self.new }
         ensures memory { self.new.cells.now ≡ slice_set self.old.cells.now self.old.len x }
         ensures size { size self.new ≡ size self.old }
         ensures same { self.new.cells.ghost_name ≡ self.old.cells.ghost_name }
@@ -91,9 +94,13 @@ impl<'a, T: Copy> Stack<'a, T> {
         ensures items { items self.new ≡ items self.old ++ xs.now }
         ensures spares { spares self.new ≡ drop (length xs.now) (spares self.old) }
         ensures len { self.new.len ≡ self.old.len + length xs.now }
+        ensures whole { sound self.old → sound self.new }
         ensures size { size self.new ≡ size self.old }
         ensures same { self.new.cells.ghost_name ≡ self.old.cells.ghost_name }
     {
+        if xs.is_empty() {
+            return;
+        }
         let end = self.len + xs.len();
         self.cells[self.len..end].copy_from_slice(xs);
         self.len = end;
@@ -102,12 +109,13 @@ impl<'a, T: Copy> Stack<'a, T> {
     // Takes the newest element off; its place keeps the value.
     pub fn pop(&mut self) -> Option<T>
         ensures cases { MatchOption result
-            ((items self.old ≡ []) × (self.new.len ≡ self.old.len))
+            ((sound self.old → items self.old ≡ []) × (self.new.len ≡ self.old.len))
             (λ x. (items self.old ≡ items self.new ++ x ∷ []) × (self.old.len ≡ self.new.len + 1)) }
+        ensures whole { sound self.old → sound self.new }
         ensures memory { self.new.cells.now ≡ self.old.cells.now }
         ensures same { self.new.cells.ghost_name ≡ self.old.cells.ghost_name }
     {
-        if self.len == 0 {
+        if self.len == 0 || self.len > self.cells.len() {
             return None;
         }
         self.len -= 1;
@@ -118,6 +126,7 @@ impl<'a, T: Copy> Stack<'a, T> {
     pub fn truncate(&mut self, n: usize)
         ensures items { items self.new ≡ take n (items self.old) }
         ensures len { self.new.len ≡ min n self.old.len }
+        ensures whole { sound self.old → sound self.new }
         ensures memory { self.new.cells.now ≡ self.old.cells.now }
         ensures same { self.new.cells.ghost_name ≡ self.old.cells.ghost_name }
     {
@@ -134,14 +143,14 @@ impl<'a, T: Copy> Stack<'a, T> {
     pub fn spare_len(&self) -> usize
         ensures { result ≡ length (spares self.now) }
     {
-        self.cells.len() - self.len
+        self.cells.len().saturating_sub(self.len)
     }
 
     // The unused place i, counted from the content's end.
     pub fn spare(&self, i: usize) -> Option<T>
         ensures { result ≡ slice_get (spares self.now) i }
     {
-        self.cells[self.len..].get(i).copied()
+        self.cells.get(self.len..)?.get(i).copied()
     }
 
     // Writes the unused place i; the content stays, and past the memory nothing is written.
@@ -163,6 +172,7 @@ impl<'a, T: Copy> Stack<'a, T> {
     pub fn keep_spares(&mut self, k: usize)
         ensures items { items self.new ≡ items self.old ++ take k (spares self.old) }
         ensures len { self.new.len ≡ self.old.len + min k (length (spares self.old)) }
+        ensures whole { sound self.old → sound self.new }
         ensures memory { self.new.cells.now ≡ self.old.cells.now }
         ensures same { self.new.cells.ghost_name ≡ self.old.cells.ghost_name }
     {

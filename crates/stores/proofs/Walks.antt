@@ -61,7 +61,7 @@ module _ (s : Store) (p : List ℕ) where
       by false = refl
 
 -- ---- a walk answers with one of its rules
-unsettled_below : (s : Store) (p : List ℕ) (k r j : ℕ) → unsettled_from s p k r ≡ Some j → j < r + k
+pub unsettled_below : (s : Store) (p : List ℕ) (k r j : ℕ) → unsettled_from s p k r ≡ Some j → j < r + k
 unfolding unsettled_from
 unsettled_below s p zero r j e = absurd (cc e)
 unsettled_below s p (suc k) r j e = by (is_settled (s.look r p)) e (unsettled_below s p k (suc r) j)
@@ -95,7 +95,7 @@ gain_one (Open j) Broken = omega arith
 gain_one (Open j) (Forces l) = omega arith
 gain_one (Open j) (Open k) = open_few (ltb k j) k
 
-gain_small : (s : Store) (p q : List ℕ) (k r : ℕ) → gain_from s p q k r ≤ 1000 * k
+pub gain_small : (s : Store) (p q : List ℕ) (k r : ℕ) → gain_from s p q k r ≤ 1000 * k
 unfolding gain_from
 gain_small s p q zero r = omega arith
 gain_small s p q (suc k) r = let one = gain_one (s.look r p) (s.look r q) in let rest = gain_small s p q k (suc r) in omega arith

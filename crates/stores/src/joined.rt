@@ -93,6 +93,11 @@ impl<'a, 'b, F: Rules, G: Rules> Rules for Joined<'a, 'b, F, G> {
         self.first.gain(before, side) + self.second.gain(before, side)
     }
 
+    #[tactic(auto, using(crate::proofs::Joining::settled_both))]
+    fn all_settled(&self, partial: &[u8]) -> bool {
+        self.first.all_settled(partial) && self.second.all_settled(partial)
+    }
+
     #[tactic(auto, using(crate::proofs::Joining::unsettled_both, crate::proofs::Joining::both_few, crate::proofs::Walks::unsettled_few))]
     fn unsettled(&self, partial: &[u8]) -> Option<usize> {
         match self.first.unsettled(partial) {

@@ -1,10 +1,10 @@
 // What a store of rules means, and what walks over all its rules answer.
-ghost use Rattle.std.specs.Prelude.{◌≡◌, ℕ, ◌≤◌, false};
+ghost use Rattle.std.specs.Prelude.{◌≡◌, ℕ, ◌≤◌, false, not};
 ghost use Rattle.std.specs.Range.{range_inclusive_start, range_inclusive_end, range_inclusive_exhausted};
 ghost use Rattle.rules.specs.Literals.{Partial};
 ghost use Rattle.stores.specs.Numbers.{reply_of};
 ghost use Rattle.stores.specs.Stores.{Store, Lawful, look_reply, Said};
-ghost use Rattle.stores.specs.Walks.{lowest_of, gained, all_settled, first_unsettled};
+ghost use Rattle.stores.specs.Walks.{find_of, lowest_of, gained, is_settled, all_settled, first_unsettled};
 
 use crate::look::{Find, Look, Refusal};
 use crate::weight::gain_of;
@@ -51,7 +51,12 @@ pub trait Rules {
         requires { Partial (means self.now).n partial.now }
         ensures { result ≡ lowest_of (means self.now) partial.now }
     {
-        numbers(self.rules()).find_map(|rule| self.seen(rule, partial).found())
+        numbers(self.rules()).find_map(
+            |rule|
+                requires { (1 ≤ rule) × ((rule ≤ (means self.now).m) × (Partial (means self.now).n partial.now)) }
+                ensures { result ≡ find_of ((means self.entry.now).look rule partial.entry.now) }
+            { self.seen(rule, partial).found() },
+        )
     }
 
     // The gain of a side: the weights of the rules that are open there with less than before.
@@ -80,6 +85,11 @@ pub trait Rules {
         requires { Partial (means self.now).n partial.now }
         ensures { result ≡ first_unsettled (means self.now) partial.now }
     {
-        numbers(self.rules()).find(|rule| !self.seen(*rule, partial).is_settled())
+        numbers(self.rules()).find(
+            |rule|
+                requires { (1 ≤ rule.now) × ((rule.now ≤ (means self.now).m) × (Partial (means self.now).n partial.now)) }
+                ensures { result ≡ not (is_settled ((means self.entry.now).look rule.now partial.entry.now)) }
+            { !self.seen(*rule, partial).is_settled() },
+        )
     }
 }

@@ -108,6 +108,7 @@ impl<'a> Rules for Table<'a> {
         }
     }
 
+    #[tactic(auto, using(crate::proofs::Places::looks_from))]
     fn seen(&self, rule: usize, partial: &[u8]) -> Look {
         self.looks(rule, partial).next().unwrap()
     }

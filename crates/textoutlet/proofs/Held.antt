@@ -56,7 +56,6 @@ module _ (o : TextOutlet) (es : List Entry) (m : HoldsText o es) where
   pub fit_is : (k : Kind) (ls : List ℤ) → text_fit (size o.text) es (entry_of k ls) ≡ room_for o k ls
   fit_is k ls =
       let s = o.text in
-      let w : s.len ≤ length s.cells.now = s.within in
       let ws = next_line o.counts k ls in
       let e : length (text (es ++ entry_of k ls ∷ [])) ≡ length (items s) + length ws = ap length (sym (text_next k ls)) ∙ length-append (text es) ws ∙ ap (λ t. length t + length ws) (sym m.held) in
       let n : length (items s) + length (spares s) ≡ size s = simp (length-take, length-drop) (omega arith) in

@@ -2,6 +2,6 @@
 #![tactic(auto)]
 
 mod counts;
-mod out;
+pub mod out;
 
 pub use out::TextOutlet;

@@ -1,13 +1,13 @@
 // Entries as lines in lent bytes: letter, number within the kind, literals.
 ghost use Rattle.std.specs.Prelude.{◌≡◌, ◌+◌, ◌*◌, ◌^◌, ◌<◌, ◌≤◌, ◌-◌, List, [], length};
 ghost use Rattle.std.specs.List.{AllByRecursion};
-ghost use Rattle.stack.specs.Items.{spares};
+ghost use Rattle.stack.specs.Items.{spares, sound};
 ghost use Rattle.outlet.specs.Memory.{Appended};
 ghost use Rattle.lines.specs.Lines.{Narrow};
 ghost use Rattle.textoutlet.specs.Counting.{next_line};
 
 use crate::counts::Counts;
-use outlet::{Kind, Outlet};
+use outlet::{Append, Kind, Outlet, Refusal, put_if_room};
 use stack::Stack;
 
 // Puts the line of an entry behind the text, where there is room for it.
@@ -25,6 +25,7 @@ fn put_next(text: &mut Stack<u8>, counts: Counts, kind: Kind, lits: &[i32])
 pub struct TextOutlet<'a> {
     text: Stack<'a, u8>,
     counts: Counts,
+    ghost whole: { sound text },
     ghost few: { 4 * (counts.cubes + counts.learnt) ≤ text.len },
     ghost addressed: { length text.cells.now < 2 ^ 64 },
 }
@@ -63,6 +64,28 @@ impl<'a> TextOutlet<'a> {
 
 impl<'a> Outlet for TextOutlet<'a> {
     ghost use Rattle.stack.specs.Items.{size};
+    ghost use Rattle.textoutlet.specs.TextHeld.{HoldsText, KeepsText, text_fit};
+    ghost use Rattle.textoutlet.specs.TextLaws.{text_laws};
+
+    ghost means = { HoldsText };
+
+    ghost fitting = { λ o. text_fit (size o.text) };
+
+    ghost keeps = { KeepsText };
+
+    ghost laws = { text_laws };
+
+    fn fits(&self, kind: Kind, lits: &[i32]) -> bool {
+        self.has_room(kind, lits)
+    }
+
+    fn put(&mut self, kind: Kind, lits: &[i32]) -> Result<(), Refusal> {
+        put_if_room(self, kind, lits)
+    }
+}
+
+impl<'a> Append for TextOutlet<'a> {
+    ghost use Rattle.stack.specs.Items.{size};
     ghost use Rattle.textoutlet.specs.TextHeld.{HoldsText, KeepsText, room_for, text_fit};
     ghost use Rattle.textoutlet.specs.TextLaws.{text_laws};
 
@@ -77,7 +100,7 @@ impl<'a> Outlet for TextOutlet<'a> {
     ghost laws = { text_laws };
 
     #[tactic(auto, using(crate::proofs::Held::fit_is))]
-    fn fits(&self, kind: Kind, lits: &[i32]) -> bool {
+    fn has_room(&self, kind: Kind, lits: &[i32]) -> bool {
         self.counts.line(kind, lits).fits(self.text.spare_len())
     }
 

@@ -1,20 +1,21 @@
-use Rattle.std.proofs.Common.{◌≤◌, true, false, length, get_or, pos, sym, ap, ◌∙◌, arith, w32, SFits, rules}
+use Rattle.std.proofs.Common.{◌≤◌, cond, length, get_or, pos, sym, ap, ◌∙◌, arith, w32, SFits, rules}
 use Rattle.std.proofs.lemmas.Int.{to_z-of_z}
 use Rattle.std.proofs.lemmas.List.{at_drop_all}
 use Rattle.rules.specs.Literals.{Literal, put, is_true}
 use Rattle.lookahead.specs.Answers.{set_all, held}
 use Rattle.lookahead.proofs.News.{each_get}
-use Rattle.lookahead.proofs.Adopted.{step}
+use Rattle.lookahead.proofs.Adopted.{adopts_held}
 use Rattle.lookahead.proofs.literals.adopt_held.Goals as goal
-use Rattle.lookahead.proofs.literals.adopt_held.Goals.{then-is_true, else-is_true}
 
-pub is_true-requires : goal.is_true-requires
-is_true-requires c =
+pub adopt_if_held-requires : goal.adopt_if_held-requires
+adopt_if_held-requires c =
     let ls = c.args.news.now in
     let i = c.loop-l.l-index in
     let l = get_or ls i (pos 0) in
-    let fit : SFits w32 l = search rules in
-    rw (to_z-of_z w32 l fit, c.requires.1) (each_get (Literal (length c.args.partial.now)) ls i (pos 0) c.loop-l-test.true c.requires.0)
+    let fit : SFits w32 l = search rules in (
+      rw (to_z-of_z w32 l fit, c.loop-l.auto.partial) (each_get (Literal (length c.args.partial.now)) ls i (pos 0) c.loop-l-test.true c.requires.0),
+      c.requires.1 ∙ sym c.loop-l.auto.partial,
+    )
 
 pub loop-l-preserved : goal.loop-l-preserved
 loop-l-preserved c =
@@ -24,13 +25,7 @@ loop-l-preserved c =
     let p = c.loop-l.partial in
     let r = c.args.other.now in
     let fit : SFits w32 l = search rules in
-    let same = to_z-of_z w32 l fit in
-    elim c.if-is_true.branch [
-      | then-is_true w ↦
-          step p r ls i c.loop-l-test.true true c.if-is_true.partial (ap (is_true r) (sym same) ∙ sym w.if-is_true.ensures) (w.partial-is ∙ w.assign.ensures ∙ ap (put p) same) ∙ c.loop-l.invariant
-      | else-is_true w ↦
-          step p r ls i c.loop-l-test.true false c.if-is_true.partial (ap (is_true r) (sym same) ∙ sym w.if-is_true.ensures) w.partial-is ∙ c.loop-l.invariant
-    ]
+    adopts_held p r ls i c.loop-l-test.true c.adopt_if_held.new.partial (c.adopt_if_held.ensures ∙ ap (λ z. cond (is_true r z) (put p z) p) (to_z-of_z w32 l fit)) ∙ c.loop-l.invariant
 
 pub returns : goal.returns
 returns c =

@@ -1,18 +1,17 @@
-use Rattle.std.proofs.Common.{◌≡◌, ℕ, List, true, false, take, ℤ, Option, Ok, Err, Result, sym, refl, ap, ◌∙◌, subst}
-use Rattle.std.specs.Prelude.{IfOk, IsErr}
-use Rattle.std.proofs.lemmas.Bool.{true≢false}
+use Rattle.std.proofs.Common.{◌≡◌, ℕ, List, true, false, take, ℤ, Ok, Result, sym, ap, ◌∙◌, subst}
+use Rattle.std.specs.Prelude.{IfOk}
 use Rattle.rules.specs.Literals.{Partial, Extends}
 use Rattle.stores.specs.Stores.{Store, Keeps}
 use Rattle.stores.specs.Walks.{gained}
-use Rattle.closing.specs.Closing.{close, ended, left}
+use Rattle.closing.specs.Closing.{close, left, ended}
 use Rattle.closing.specs.declared.ending.Clash.{Clash}
-use Rattle.lookahead.specs.declared.kinds.Gains.{Gains}
 use Rattle.lookahead.specs.declared.trials.Kept.{Kept}
-use Rattle.lookahead.specs.Trials.{Scored, Pass, dead, common, by_gains, rank_of}
-use Rattle.lookahead.specs.Answers.{Taken, goes_on, set_all, held}
+use Rattle.lookahead.specs.declared.trials.Left.TheVariants as side
+use Rattle.lookahead.specs.Trials.{common, by_gains, rank_of}
+use Rattle.lookahead.specs.Answers.{Taken, set_all, held}
 use Rattle.lookahead.proofs.Partials.{common_adds, common_partial}
 use Rattle.lookahead.proofs.Sides.{set_held, set_news}
-use Rattle.lookahead.proofs.Turns.{true_side, shared_clashes, shared_closes, side_adds, closes_more, gain_low}
+use Rattle.lookahead.proofs.Turns.{ends_by, true_side, both_sides, side_adds, closes_more, gain_low}
 use Rattle.lookahead.proofs.trials.trial.Goals as goal
 
 taken_at : (s : Store) (p q : List ℕ) (places : List ℤ) (r : Result Kept Clash) (k : Kept) → r ≡ Ok k → IfOk r (λ k. Taken s p q places k.gain k.news) → Taken s p q places k.gain k.news
@@ -26,61 +25,48 @@ module _ (s : Store) (keep : Keeps s) (p q r : List ℕ) (places : List ℤ) (t 
   shared_adds : (v : List ℕ) → v ≡ left s (set_all p (held r (take k places))) → Extends v p
   shared_adds v leaves = closes_more s keep p (common p q r) v (common_partial s.n p q r fp fq) (common_adds p q r adds) (leaves ∙ ap (left s) shares)
 
-  ranks : (y f : ℕ) → y ≡ t → f ≡ gained s p r → rank_of (gained s p q) (gained s p r) ≡ rank_of y f
-  ranks y f d e = ap (λ k. rank_of k (gained s p r)) (sym (d ∙ taken.gains)) ∙ ap (rank_of y) (sym e)
+  ranks : (f : ℕ) → f ≡ gained s p r → rank_of (gained s p q) (gained s p r) ≡ rank_of t f
+  ranks f e = ap (λ k. rank_of k (gained s p r)) (sym taken.gains) ∙ ap (rank_of t) (sym e)
 
-pub slice_bounds-adopt-end : goal.slice_bounds-adopt-end
-slice_bounds-adopt-end g c =
-    let first = c.try_true_side-first in
-    (taken_at (g.S.Rules.means c.args.store.now) c.args.partial.now first.new.side first.new.places first.result c.in-Ok-Err.kept c.in-Ok-Err.is-0 first.ensures.kept).few
-
-pub slice_bounds-news-end : goal.slice_bounds-news-end
-slice_bounds-news-end g c =
-    let first = c.try_true_side-first in
-    (taken_at (g.S.Rules.means c.args.store.now) c.args.partial.now first.new.side first.new.places first.result c.in-Ok-Ok.kept c.in-Ok-Ok.is-0 first.ensures.kept).few
-
-pub share-requires : goal.share-requires
-share-requires g c =
+pub invariant_of-gains : goal.invariant_of-gains
+invariant_of-gains g c =
     let s = g.S.Rules.means c.args.store.now in
+    let few = g.S.Rules.laws.few_rules c.args.store.now in
     let p = c.args.partial.now in
     let first = c.try_true_side-first in
-    let taken = taken_at s p first.new.side first.new.places first.result c.in-Ok-Ok.kept c.in-Ok-Ok.is-0 first.ensures.kept in
-    record {
-      sides = (c.requires.0, c.try_side-second.ensures.fit);
-      news = taken.literals;
-      low = gain_low s (g.S.Rules.laws.few_rules c.args.store.now) p first.new.side c.in-Ok-Ok.kept.gain taken.gains;
-    }
+    let second = c.try_side-second in
+    let kept = c.in-Both.kept in
+    let ends = ends_by first.result second.result (Ok (side.Both kept)) (ap Ok (sym c.in-Both.is) ∙ c.in_ok-sides_left.ensures) in
+    let taken = taken_at s p first.new.side first.new.places first.result kept ends.0 first.ensures.kept in
+    record { low = (gain_low s few p first.new.side kept.gain taken.gains, gain_low s few p second.new.side c.gain.result c.gain.ensures) }
 
-pub returns-in-Err-Ok-clause-adds : goal.returns-in-Err-Ok-clause-adds
-returns-in-Err-Ok-clause-adds g c =
+pub returns-in-False-clause-adds : goal.returns-in-False-clause-adds
+returns-in-False-clause-adds g c =
     let p = c.args.partial.now in
     subst (λ u. Extends u p) (sym c.copy_from_slice.ensures.after)
     (side_adds (g.S.Rules.means c.args.store.now) (g.S.Rules.laws.keeps c.args.store.now) p c.args.i false c.try_side-second.new.side c.requires.0 c.requires.1.1.1.1 c.try_side-second.ensures.leaves)
 
-pub returns-in-Ok-Err : goal.returns-in-Ok-Err
-returns-in-Ok-Err g c =
+pub returns-in-True : goal.returns-in-True
+returns-in-True g c =
     let s = g.S.Rules.means c.args.store.now in
     let keep = g.S.Rules.laws.keeps c.args.store.now in
     let p = c.args.partial.now in
     let first = c.try_true_side-first in
     let second = c.try_side-second in
     let q = first.new.side in
-    let taken = taken_at s p q first.new.places first.result c.in-Ok-Err.kept c.in-Ok-Err.is-0 first.ensures.kept in
+    let kept = c.in-True.kept in
+    let ends = ends_by first.result second.result (Ok (side.True kept)) (ap Ok (sym c.in-True.is) ∙ c.in_ok-sides_left.ensures) in
+    let taken = taken_at s p q first.new.places first.result kept ends.0 first.ensures.kept in
     let adds = side_adds s keep p c.args.i true q c.requires.0 c.requires.1.1.1.1 first.ensures.leaves in
     let after : c.adopt.new.partial ≡ q = c.adopt.ensures ∙ ap (set_all p) taken.front ∙ set_news s.n p q c.requires.0 first.ensures.fit adds in
     record {
-      value = λ go xs. true_side s (by_gains s) p c.args.i go xs q (ap (λ u. ended u q) (sym c.in-Ok-Err.is-0) ∙ first.ensures.value) (ap (λ u. ended u second.new.side) (sym c.in-Ok-Err.is-1) ∙ second.ensures.value) ∙ ap (λ u. go u xs) (sym after);
+      value = λ go xs. true_side s (by_gains s) p c.args.i go xs q (ap (λ u. ended u q) (sym ends.0) ∙ first.ensures.value) (ends.1 second.new.side ∙ second.ensures.value) ∙ ap (λ u. go u xs) (sym after);
       fit = subst (Partial s.n) (sym after) first.ensures.fit;
       adds = subst (λ u. Extends u p) (sym after) adds;
     }
 
--- a clash ends the pass
-ends : (r : Result (Option Gains) Clash) → IsErr r → (go : List ℕ → List Scored → Pass) (p : List ℕ) (i : ℕ) (xs : List Scored) → dead ≡ goes_on r go p i xs
-ends (Ok o) h go p i xs = absurd (true≢false (sym h))
-ends (Err e) h go p i xs = refl
-
-pub returns-in_err-gains-in-Ok-Ok : goal.returns-in_err-gains-in-Ok-Ok
-returns-in_err-gains-in-Ok-Ok g c =
+pub returns-in-Both : goal.returns-in-Both
+returns-in-Both g c =
     let s = g.S.Rules.means c.args.store.now in
     let keep = g.S.Rules.laws.keeps c.args.store.now in
     let p = c.args.partial.now in
@@ -88,40 +74,17 @@ returns-in_err-gains-in-Ok-Ok g c =
     let q = first.new.side in
     let second = c.try_side-second in
     let r = second.new.side in
-    let v = c.share.new.partial in
-    let kept = c.in-Ok-Ok.kept in
-    let taken = taken_at s p q first.new.places first.result kept c.in-Ok-Ok.is-0 first.ensures.kept in
+    let v = c.share-shared.new.partial in
+    let kept = c.in-Both.kept in
+    let ends = ends_by first.result second.result (Ok (side.Both kept)) (ap Ok (sym c.in-Both.is) ∙ c.in_ok-sides_left.ensures) in
+    let taken = taken_at s p q first.new.places first.result kept ends.0 first.ensures.kept in
     let adds = side_adds s keep p c.args.i true q c.requires.0 c.requires.1.1.1.1 first.ensures.leaves in
     let same = shares s keep p q r first.new.places kept.gain kept.news c.requires.0 first.ensures.fit second.ensures.fit adds taken in
+    let rank = ranks s keep p q r first.new.places kept.gain kept.news c.requires.0 first.ensures.fit second.ensures.fit adds taken c.gain.result c.gain.ensures in
     record {
       value = λ go xs.
-          shared_clashes s (by_gains s) p c.args.i go xs q r (ap (λ u. ended u q) (sym c.in-Ok-Ok.is-0) ∙ first.ensures.value) (ap (λ u. ended u r) (sym c.in-Ok-Ok.is-1) ∙ second.ensures.value)
-          (c.in_err-gains-in-Ok-Ok.ensures.value ∙ ap (close s) same) ∙ ends c.from_residual.result c.from_residual.ensures.0 go v c.args.i xs;
-      fit = c.share.ensures.fit;
-      adds = shared_adds s keep p q r first.new.places kept.gain kept.news c.requires.0 first.ensures.fit second.ensures.fit adds taken v c.share.ensures.leaves;
-    }
-
-pub returns-in_ok-gains-in-Ok-Ok : goal.returns-in_ok-gains-in-Ok-Ok
-returns-in_ok-gains-in-Ok-Ok g c =
-    let s = g.S.Rules.means c.args.store.now in
-    let keep = g.S.Rules.laws.keeps c.args.store.now in
-    let p = c.args.partial.now in
-    let first = c.try_true_side-first in
-    let q = first.new.side in
-    let second = c.try_side-second in
-    let r = second.new.side in
-    let v = c.share.new.partial in
-    let kept = c.in-Ok-Ok.kept in
-    let gains = c.in_ok-gains-in-Ok-Ok.gains in
-    let taken = taken_at s p q first.new.places first.result kept c.in-Ok-Ok.is-0 first.ensures.kept in
-    let adds = side_adds s keep p c.args.i true q c.requires.0 c.requires.1.1.1.1 first.ensures.leaves in
-    let same = shares s keep p q r first.new.places kept.gain kept.news c.requires.0 first.ensures.fit second.ensures.fit adds taken in
-    let each = c.in_ok-gains-in-Ok-Ok.ensures.gains in
-    let rank = ranks s keep p q r first.new.places kept.gain kept.news c.requires.0 first.ensures.fit second.ensures.fit adds taken gains.yes gains.no each.0 each.1 in
-    record {
-      value = λ go xs.
-          shared_closes s (by_gains s) p c.args.i go xs q r (ap (λ u. ended u q) (sym c.in-Ok-Ok.is-0) ∙ first.ensures.value) (ap (λ u. ended u r) (sym c.in-Ok-Ok.is-1) ∙ second.ensures.value)
-          v (c.in_ok-gains-in-Ok-Ok.ensures.value ∙ ap (close s) same) gains.yes gains.no rank;
-      fit = c.share.ensures.fit;
-      adds = shared_adds s keep p q r first.new.places kept.gain kept.news c.requires.0 first.ensures.fit second.ensures.fit adds taken v c.share.ensures.leaves;
+          both_sides s (by_gains s) p c.args.i go xs q r (ap (λ u. ended u q) (sym ends.0) ∙ first.ensures.value) (ends.1 r ∙ second.ensures.value)
+          c.share-shared.result v (c.share-shared.ensures.value ∙ ap (close s) same) _ c.ranked.result c.ranked.ensures rank;
+      fit = c.share-shared.ensures.fit;
+      adds = shared_adds s keep p q r first.new.places kept.gain kept.news c.requires.0 first.ensures.fit second.ensures.fit adds taken v c.share-shared.ensures.leaves;
     }

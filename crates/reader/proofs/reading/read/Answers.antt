@@ -2,7 +2,7 @@ use Rattle.std.proofs.Common.{length, Err, ap, ◌∙◌}
 use Rattle.std.proofs.lemmas.Result.{err_from_is_err_and}
 use Rattle.rules.specs.declared.kind.Kind.TheVariants.{Clause, Odd}
 use Rattle.rules.specs.Rules.{clauses, odds}
-use Rattle.reader.proofs.Wholes.{refused_answer, refused_table, short_answer, short_table, full_answer, clauses_fit, odds_fit, full_table}
+use Rattle.reader.proofs.Wholes.{refused_answer, refused_table, short_answer, short_table, clauses_fit, odds_fit, full_table}
 use Rattle.reader.proofs.Formats.{read_as}
 use Rattle.reader.proofs.reading.read.Goals as goal
 
@@ -27,11 +27,8 @@ returns-then-not-fit c =
 pub fill-requires : goal.fill-requires
 fill-requires c = record { clauses = clauses_fit _ _ c.in_ok-plan.ensures _ _ c.if-not-fit.ensures; odds = odds_fit _ _ c.in_ok-plan.ensures _ _ c.if-not-fit.ensures }
 
-pub returns : goal.returns
-returns c =
-    let h = c.in_ok-plan.ensures in
-    let yes = c.if-not-fit.ensures in
-    let a = full_answer _ _ h _ _ yes in
-    let x = c.fill.ensures.clauses ∙ full_table _ _ h _ _ yes Clause c.args.clauses.now in
-    let y = c.fill.ensures.odds ∙ full_table _ _ h _ _ yes Odd c.args.odds.now in
-    record { answer = a; clauses = x; odds = y; spelled = read_as c.args.text.now c.args.clauses.now c.args.odds.now _ _ _ a x y }
+pub returns-clause-clauses : goal.returns-clause-clauses
+returns-clause-clauses c = c.fill.ensures.clauses ∙ full_table _ _ c.in_ok-plan.ensures _ _ c.if-not-fit.ensures Clause c.args.clauses.now
+
+pub returns-clause-odds : goal.returns-clause-odds
+returns-clause-odds c = c.fill.ensures.odds ∙ full_table _ _ c.in_ok-plan.ensures _ _ c.if-not-fit.ensures Odd c.args.odds.now

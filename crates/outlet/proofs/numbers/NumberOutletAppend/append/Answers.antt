@@ -2,8 +2,13 @@ use Rattle.std.proofs.Common.{[], ◌++◌, ap, ◌∙◌}
 use Rattle.std.proofs.lemmas.List.{flat_map_more}
 use Rattle.outlet.specs.Entries.{entry_of}
 use Rattle.outlet.specs.Numbers.{entry_numbers, numbers_fit}
-use Rattle.outlet.proofs.Appending.{appended_kept, appended_size}
-use Rattle.outlet.proofs.numbers.NumberOutletOutlet.append.Goals as goal
+use Rattle.outlet.proofs.Appending.{appended_kept, appended_size, appended_sound}
+use Rattle.outlet.proofs.numbers.NumberOutletAppend.append.Goals as goal
+
+pub invariant_of-self : goal.invariant_of-self
+invariant_of-self c =
+    let o = c.args.self.now in
+    record { whole = appended_sound o.numbers (entry_numbers (entry_of c.args.kind c.args.lits.now)) c.write_entry.new.out c.write_entry.ensures o.whole }
 
 pub returns : goal.returns
 returns c =

@@ -1,10 +1,10 @@
 use Rattle.std.proofs.Common.{◌+◌, ◌++◌, sym, ap, ◌∙◌, arith}
-use Rattle.outlet.proofs.Appending.{appended_len, appended_size, appended_kept}
+use Rattle.outlet.proofs.Appending.{appended_size, appended_sound, appended_kept}
 use Rattle.lines.specs.Lines.{of_kind}
 use Rattle.textoutlet.specs.Counting.{counted, next_line}
 use Rattle.textoutlet.specs.TextHeld.{text_fit}
 use Rattle.textoutlet.proofs.Held.{text_next, counts_push, narrow_push, one_more, four_bytes}
-use Rattle.textoutlet.proofs.out.TextOutletOutlet.append.Goals as goal
+use Rattle.textoutlet.proofs.out.TextOutletAppend.append.Goals as goal
 
 pub invariant_of-self : goal.invariant_of-self
 invariant_of-self c =
@@ -17,9 +17,9 @@ invariant_of-self c =
     let b = o.addressed in
     let one = one_more k o.counts in
     let four = four_bytes k (of_kind k o.counts.cubes o.counts.learnt + 1) ls in
-    let long = appended_len o.text (next_line o.counts k ls) t a in
+    let long = a.len in
     let size = appended_size o.text (next_line o.counts k ls) t a in
-    record { few = rw c.add.ensures (omega (arith, f, one, four, long)); addressed = omega (arith, b, size) }
+    record { whole = appended_sound o.text (next_line o.counts k ls) t a o.whole; few = rw c.add.ensures (omega (arith, f, one, four, long)); addressed = omega (arith, b, size) }
 
 pub returns : goal.returns
 returns c =
